@@ -1,5 +1,5 @@
 -- Numbers and identifiers as bytes in a chosen order (C706, 14.2 and appendix A).
-use Rattle.std.specs.Prelude.{ℕ, ◌+◌, ◌<◌, List, get_or}
+use Rattle.std.specs.Prelude.{◌≡◌, ℕ, ◌<◌, ◌^◌, List, length, get_or}
 use Rattle.byteorder.specs.Endian.{little_bytes, big_bytes, little_number, big_number}
 use Rattle.uuid.specs.Parts.{swap_fields}
 use Rattle.wire_fields.specs.declared.endian.Endian.{Endian}
@@ -24,3 +24,9 @@ number Big width bytes = big_number width bytes
 unfoldable pub uuid_text : Endian → List ℕ → List ℕ
 uuid_text Little id = swap_fields id
 uuid_text Big id = id
+
+-- Every list of bytes is the spelling of exactly one number of its width.
+abbrev pub SpellsOneNumber : Endian → List ℕ → Type 0
+SpellsOneNumber endian bytes =
+    (value : ℕ) × (value < 256 ^ length bytes) × (num endian (length bytes) value ≡ bytes)
+    × ((other : ℕ) → other < 256 ^ length bytes → num endian (length bytes) other ≡ bytes → other ≡ value)

@@ -4,10 +4,12 @@
 
 mod endian;
 mod fields;
+mod laws;
 mod octets;
 mod put;
 
 pub use endian::Endian;
 pub use fields::{Fields, Short};
+pub use laws::one_number;
 pub use octets::Octets;
 pub use put::Put;
