@@ -1,14 +1,13 @@
 -- What a reader took is the spelling of the field, and what is spelled is read.
-use Rattle.std.proofs.Common.{◌≡◌, ℕ, zero, suc, ◌+◌, ◌-◌, ◌^◌, ◌<◌, ◌≤◌, Bool, true, false, cond, ltb, List, [], ◌∷◌, ◌++◌, length, take, drop, Option, Some, None, refl, sym, ap, ◌∙◌, subst, append_assoc, arith, length-append, length-drop}
+use Rattle.std.proofs.Common.{◌≡◌, ℕ, ◌+◌, ◌^◌, ◌<◌, ◌≤◌, Bool, true, false, cond, ltb, List, [], ◌++◌, length, take, Option, Some, None, refl, sym, ap, ◌∙◌, subst, append_assoc, arith, length-append}
 use Rattle.std.proofs.lemmas.Bool.{ltb-false, le-ltb}
 use Rattle.std.proofs.lemmas.List.{take_at, drop_at, take-append-drop, length-take}
-use Rattle.uuid.specs.Parts.{swap_fields}
 use Rattle.uuid.proofs.RoundTrips.{swap_twice}
 use Rattle.wire_fields.specs.declared.endian.Endian.{Endian}
 use Rattle.wire_fields.specs.declared.endian.Endian.TheVariants.{Little, Big}
 use Rattle.wire_fields.specs.Numbers.{IsBytes, num, number, uuid_text}
 use Rattle.wire_fields.specs.Reading.{Reading, after, ◌>>=◌, bytes_at, gap, align_at, number_at, number_in, uuid_at}
-use Rattle.wire_fields.proofs.NumberLaws.{IsBytes-drop, IsBytes-take, length-num, num-number, number-lt, number-num, number-of_num}
+use Rattle.wire_fields.proofs.NumberLaws.{IsBytes-drop, IsBytes-take, length-num, num-number, number-lt, number-of_num}
 
 -- A reader with these bytes left.
 abbrev pub at : Endian → ℕ → List ℕ → Reading
