@@ -1,5 +1,5 @@
 -- Numbers and identifiers as bytes in a chosen order (C706, 14.2 and appendix A).
-use Rattle.std.specs.Prelude.{◌≡◌, ℕ, ◌<◌, ◌^◌, List, length, get_or}
+use Rattle.std.specs.Prelude.{◌≡◌, ℕ, ◌<◌, ◌^◌, List, length, slice_index}
 use Rattle.byteorder.specs.Endian.{little_bytes, big_bytes, little_number, big_number}
 use Rattle.uuid.specs.Parts.{swap_fields}
 use Rattle.wire_fields.specs.declared.endian.Endian.{Endian}
@@ -7,7 +7,7 @@ use Rattle.wire_fields.specs.declared.endian.Endian.TheVariants.{Little, Big}
 
 -- Each item is a byte.
 abbrev pub IsBytes : List ℕ → Type 0
-IsBytes bytes = (i : ℕ) → get_or bytes i 0 < 256
+IsBytes bytes = (i : ℕ) → slice_index bytes i < 256
 
 -- The number as so many bytes.
 unfoldable pub num : Endian → ℕ → ℕ → List ℕ

@@ -7,5 +7,4 @@ ghost use Rattle.wire_fields.specs.declared.endian.Endian.{Endian};
 /// In either byte order each list of bytes spells one number, and no other of its width.
 pub fn one_number()
     ensures { (endian : Endian) (bytes : List ℕ) → IsBytes bytes → SpellsOneNumber endian bytes }
-{
-}
+{}

@@ -13,3 +13,6 @@ pub use fields::{Fields, Short};
 pub use laws::one_number;
 pub use octets::Octets;
 pub use put::Put;
+
+#[cfg(test)]
+mod tests;
