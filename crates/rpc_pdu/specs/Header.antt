@@ -1,5 +1,5 @@
 -- The 16 bytes in front of a PDU (C706 12.6.3.1), read by place.
-use Rattle.std.specs.Prelude.{◌≡◌, ℕ, ◌≤◌, Bool, true, false, ◌&&◌, ◌||◌, List, [], ◌∷◌, length, slice_index, nat_le, nat_lt, ◌==◌, Option, Some, None, is_some, IsTrue, Result, Ok, Err, if◌then◌else◌}
+use Rattle.std.specs.Prelude.{◌≡◌, ℕ, ◌≤◌, Bool, false, ◌&&◌, ◌||◌, List, [], ◌∷◌, length, slice_index, nat_le, nat_lt, ◌==◌, Option, Some, None, is_some, IsTrue, Result, Ok, Err, if◌then◌else◌}
 use Rattle.wire_fields.specs.declared.endian.Endian.{Endian}
 use Rattle.wire_fields.specs.declared.endian.Endian.TheVariants.{Little, Big}
 use Rattle.wire_fields.specs.Reading.{number_in}
@@ -85,5 +85,5 @@ head_at bytes = record {
 -- What reading a header gave: its type and the rest, where it passes, and else its fault.
 abbrev pub HeaderGives : Result (PduType × Head) PduFault → List ℕ → Type 0
 HeaderGives (Ok header) bytes =
-    (header_fault bytes ≡ None) × (type_with (slice_index bytes 2) ≡ Some header.0) × (header.1 ≡ head_at bytes)
+    (header_fault bytes ≡ None) × (16 ≤ length bytes) × (type_with (slice_index bytes 2) ≡ Some header.0) × (header.1 ≡ head_at bytes)
 HeaderGives (Err fault) bytes = header_fault bytes ≡ Some fault

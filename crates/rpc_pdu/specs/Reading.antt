@@ -1,5 +1,5 @@
 -- Reading bodies, and what a call of a reader gave.
-use Rattle.std.specs.Prelude.{◌≡◌, ℕ, ◌+◌, ◌-◌, ◌%◌, Bool, List, [], ◌∷◌, length, drop, slice_index, ◌==◌, Option, Some, None, Result, Ok, Err, if◌then◌else◌}
+use Rattle.std.specs.Prelude.{◌≡◌, ℕ, ◌+◌, List, length, drop, slice_index, ◌==◌, Option, Some, None, Result, Ok, Err, if◌then◌else◌}
 use Rattle.wire_fields.specs.Reading.{Reading, ◌>>=◌, bytes_at, gap, number_at, uuid_at, times}
 use Rattle.rpc_pdu.specs.declared.bodies.BindAckBody.{BindAckBody}
 use Rattle.rpc_pdu.specs.declared.bodies.BindBody.{BindBody}

@@ -342,8 +342,17 @@ fn put_versions(put: &mut Put, versions: &[(u8, u8)]) -> Result<(), AllocError>
     requires { put.old.endian ≡ Little }
     ensures { Appends result put.old put.new (flat_map version_text versions.now) }
 {
-    for (major, minor) in versions {
-        put.bytes(&[*major, *minor])?;
+    for version in versions {
+        put_version(put, version)?;
     }
     Ok(())
+}
+
+#[tactic(auto, unfolding(crate::specs::Encoding::version_text))]
+fn put_version(put: &mut Put, version: &(u8, u8)) -> Result<(), AllocError>
+    requires { put.old.endian ≡ Little }
+    ensures { Appends result put.old put.new (version_text version.now) }
+{
+    put.u8(version.0)?;
+    put.u8(version.1)
 }
