@@ -1,3 +1,4 @@
 pub mod Session
+pub mod Stand
 pub mod Statuses
 pub mod Turns
