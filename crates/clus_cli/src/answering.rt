@@ -1,8 +1,8 @@
 //! The answer to one recorded client stream, frame by frame.
 
-ghost use Rattle.std.specs.Prelude.{◌≡◌, ◌≤◌, List, Option, IfOk, IfSome, Some, None};
+ghost use Rattle.std.specs.Prelude.{◌≡◌, ◌≤◌, length, IfOk, IfSome};
 ghost use Rattle.rpc_pdu.specs.Encoding.{CanSpell};
-ghost use Rattle.clus_cli.specs.Session.{IsAnswered, answer_of, is_answered, is_one_accepted, opens};
+ghost use Rattle.clus_cli.specs.Session.{IsAnswered, answer_of, is_answered, is_one_accepted, longest_input, opens};
 ghost use Rattle.clus_cli.specs.Turns.{AnswersBy, IsTurn};
 
 use rpc_assoc::{Assoc, AssocOut, accepts, fault};
@@ -16,12 +16,14 @@ const OPERATION_RANGE: u32 = 0x1C01_0002;
 const HEADER: usize = 16;
 
 /// The answers to an input, and the place of the first frame that isn't answered yet.
+#[derive(Drop)]
 pub(crate) struct Answered {
     pub(crate) out: Vec<u8>,
     pub(crate) stop: Option<u32>,
 }
 
 /// What the next frame comes to.
+#[derive(Drop)]
 enum Turn {
     /// No whole frame is left.
     End,
