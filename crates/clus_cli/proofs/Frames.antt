@@ -1,5 +1,5 @@
 -- The frames of a session, one more at a time.
-use Rattle.std.proofs.Common.{◌≡◌, ℕ, ◌+◌, ◌-◌, ◌≤◌, Bool, true, false, List, [], ◌∷◌, ◌++◌, length, take, drop, Option, Some, None, refl, sym, subst, append_assoc, arith, inl}
+use Rattle.std.proofs.Common.{◌≡◌, ℕ, ◌+◌, ◌-◌, ◌≤◌, Bool, true, false, List, [], ◌∷◌, ◌++◌, length, take, drop, Option, Some, None, refl, sym, subst, append_assoc, arith, inl, inr}
 use Rattle.std.specs.Prelude.{IfSome}
 use Rattle.std.proofs.lemmas.List.{append-nil, drop-drop, length-take-le, take-append-drop, take_rest}
 use Rattle.causes.specs.Writing.{Wrote}
@@ -7,6 +7,7 @@ use Rattle.edge_io.specs.Reading.{ReadsAll}
 use Rattle.edge_io.specs.declared.reading.ReadAll.TheVariants.{TooLong}
 use Rattle.rpc_pdu.specs.declared.pdu.Pdu.{Pdu}
 use Rattle.rpc_pdu.specs.Encoding.{spelling}
+use Rattle.rpc_pdu.specs.Grammar.{IsPdu}
 use Rattle.rpc_pdu.specs.Header.{peek_at}
 use Rattle.rpc_assoc.specs.declared.assoc.AssocOut.{AssocOut}
 use Rattle.rpc_assoc.specs.Association.{step_of}
@@ -72,3 +73,8 @@ pub refused : (left written now : Option (List ℕ)) → IfSome left (λ input. 
     → IfSome left (λ input. Writes input written written (NotYet longest_input))
 refused None written now told = tt
 refused (Some input) written now told = inl (told.0, refl, wrote_nothing written)
+
+-- What is left begins with a PDU that isn't answered.
+pub stops_at : (s : State) (rest : List ℕ) (size : ℕ) (pdu : Pdu) → Some size ≡ peek_at rest → 16 ≤ size → size ≤ length rest
+    → IsPdu (take size rest) pdu → answer_of s pdu ≡ None → Stops s rest
+stops_at s rest size pdu told least within spelled no_answer = (size, sym told, inr (least, within, inr (pdu, spelled, no_answer)))

@@ -1,4 +1,3 @@
 pub mod Session
-pub mod Stand
 pub mod Statuses
 pub mod Turns

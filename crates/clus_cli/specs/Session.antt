@@ -7,7 +7,7 @@ use Rattle.rpc_pdu.specs.declared.pdu.Pdu.TheVariants.{Request, Bind}
 use Rattle.rpc_pdu.specs.declared.proposal.Proposal.{Proposal}
 use Rattle.rpc_pdu.specs.Encoding.{spelling}
 use Rattle.rpc_pdu.specs.Flags.{has_flag}
-use Rattle.clus_cli.specs.Stand.{IsPdu}
+use Rattle.rpc_pdu.specs.Grammar.{IsPdu}
 use Rattle.rpc_pdu.specs.Header.{peek_at}
 use Rattle.rpc_assoc.specs.declared.assoc.AssocOut.{AssocOut}
 use Rattle.rpc_assoc.specs.declared.assoc.AssocOut.TheVariants.{Reply, Call, Nothing}

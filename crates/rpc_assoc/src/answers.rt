@@ -3,11 +3,10 @@
 ghost use Rattle.std.specs.Prelude.{◌≡◌, IfOk};
 ghost use Rattle.rpc_assoc.specs.Answers.{accepts_bind, accepts_alter, fault_on, head_of, nak};
 
+use crate::terms::Terms;
 use rpc_pdu::{Head, Pdu, Verdicts, Versions};
 use std::alloc::{AllocError, Global};
 use wire_fields::{Endian, Octets};
-
-use crate::terms::Terms;
 
 fn answer_head(call_id: u32, flags: u8) -> Head
     ensures { result ≡ head_of call_id flags }

@@ -1,18 +1,17 @@
 //! One association: its state, and a step for each PDU of the client.
 
-use rpc_pdu::{Pdu, Proposals};
-use std::alloc::{AllocError, Global};
-use std::marker::Model;
+ghost use Rattle.std.specs.Prelude.{◌≡◌, ◌≤◌, ◌==◌, IfOk, OnErr, OnOk, is_some};
+ghost use Rattle.std.specs.List.{list_any};
+ghost use Rattle.rpc_assoc.specs.State.{AreTerms, unbound};
+ghost use Rattle.rpc_assoc.specs.Association.{alter_answer, bind_answer, bound, call_answer, group_wanted, is_too_small, reply_size, step_of, terms_for};
 
 use crate::answers::{alter_context_resp, bind_ack, bind_nak, fault};
 use crate::call::Call;
 use crate::terms::Terms;
 use crate::verdicts::{accepted_ids, verdicts_on};
-
-ghost use Rattle.std.specs.Prelude.{◌≡◌, ◌≤◌, ◌==◌, IfOk, OnErr, OnOk, is_some};
-ghost use Rattle.std.specs.List.{list_any};
-ghost use Rattle.rpc_assoc.specs.State.{AreTerms, unbound};
-ghost use Rattle.rpc_assoc.specs.Association.{alter_answer, bind_answer, bound, call_answer, group_wanted, is_too_small, reply_size, step_of, terms_for};
+use rpc_pdu::{Pdu, Proposals};
+use std::alloc::{AllocError, Global};
+use std::marker::Model;
 
 /// The fault status of a call on a context that wasn't accepted: nca_s_unk_if (C706, appendix E).
 const UNKNOWN_INTERFACE: u32 = 0x1C01_0003;
@@ -126,7 +125,9 @@ impl Assoc {
                 proposals,
             } => self.bind(head.call_id, max_xmit, max_recv, proposals, group),
             Pdu::AlterContext {
-                head, proposals, ..
+                head,
+                proposals,
+                ..
             } => self.alter(head.call_id, proposals),
             _ => Ok(AssocOut::Nothing),
         }
@@ -151,9 +152,7 @@ impl Assoc {
         proposals: Proposals,
         group: Option<u32>,
     ) -> Result<AssocOut, AllocError>
-        ensures answer {
-            IfOk result (λ out. (out, self.new) ≡ bind_answer self.old call_id max_xmit max_recv proposals group)
-        }
+        ensures answer { IfOk result (λ out. (out, self.new) ≡ bind_answer self.old call_id max_xmit max_recv proposals group) }
         ensures unchanged { OnErr result (self.new ≡ self.old) }
     {
         if self.is_bound() {
@@ -168,9 +167,7 @@ impl Assoc {
                 let terms = agree(max_xmit, max_recv, group);
                 let verdicts = verdicts_on(self.alloc, proposals.as_slice())?;
                 self.accept(terms, &proposals)?;
-                Ok(AssocOut::Reply(bind_ack(
-                    self.alloc, call_id, terms, verdicts,
-                )))
+                Ok(AssocOut::Reply(bind_ack(self.alloc, call_id, terms, verdicts)))
             }
         }
     }
@@ -185,9 +182,7 @@ impl Assoc {
             Some(terms) => {
                 let verdicts = verdicts_on(self.alloc, proposals.as_slice())?;
                 self.accept(terms, &proposals)?;
-                Ok(AssocOut::Reply(alter_context_resp(
-                    self.alloc, call_id, terms, verdicts,
-                )))
+                Ok(AssocOut::Reply(alter_context_resp(self.alloc, call_id, terms, verdicts)))
             }
         }
     }

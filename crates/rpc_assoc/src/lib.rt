@@ -14,3 +14,6 @@ pub use assoc::{Assoc, AssocOut};
 pub use call::Call;
 pub use terms::Terms;
 pub use verdicts::accepts;
+
+#[cfg(test)]
+mod tests;

@@ -4,10 +4,9 @@ ghost use Rattle.std.specs.Prelude.{◌≡◌, map, filter, IfOk};
 ghost use Rattle.std.specs.List.{list_any};
 ghost use Rattle.rpc_assoc.specs.Verdicts.{accepted_in, is_accepted, ndr, refusal_for, same_syntax, verdict_of};
 
+use crate::syntaxes::{clusapi_syntax, is_same, ndr_syntax, zero_syntax};
 use rpc_pdu::{Proposal, Syntax, Verdict, Verdicts};
 use std::alloc::{AllocError, Global};
-
-use crate::syntaxes::{clusapi_syntax, is_same, ndr_syntax, zero_syntax};
 
 pub(crate) fn verdicts_on(alloc: Global, proposals: &[Proposal]) -> Result<Verdicts, AllocError>
     ensures { IfOk result (λ verdicts. verdicts ≡ map verdict_of proposals.now) }
