@@ -3,7 +3,7 @@
 ghost use Rattle.std.specs.Prelude.{◌≡◌, ◌≤◌, ◌==◌, IfOk, OnErr, OnOk, is_some};
 ghost use Rattle.std.specs.List.{list_any};
 ghost use Rattle.rpc_assoc.specs.State.{AreTerms, unbound};
-ghost use Rattle.rpc_assoc.specs.Association.{alter_answer, bind_answer, bound, call_answer, group_wanted, is_too_small, reply_size, step_of, terms_for};
+ghost use Rattle.rpc_assoc.specs.Association.{ProposesFew, SpellsReply, alter_answer, bind_answer, bound, call_answer, group_wanted, is_too_small, reply_size, step_of, terms_for};
 
 use crate::answers::{alter_context_resp, bind_ack, bind_nak, fault};
 use crate::call::Call;
@@ -97,8 +97,16 @@ impl Assoc {
     }
 
     /// Answers a PDU; `group` is the association group that a bind gets, None where it can't have one.
-    #[tactic(auto, unfolding(crate::specs::Association::step_of))]
     pub fn step(&mut self, item: Pdu, group: Option<u32>) -> Result<AssocOut, AllocError>
+        ensures answer { IfOk result (λ out. (out, self.new) ≡ step_of self.old item group) }
+        ensures unchanged { OnErr result (self.new ≡ self.old) }
+        ensures spelled { ProposesFew item → IfOk result SpellsReply }
+    {
+        self.answer(item, group)
+    }
+
+    #[tactic(auto, unfolding(crate::specs::Association::step_of))]
+    fn answer(&mut self, item: Pdu, group: Option<u32>) -> Result<AssocOut, AllocError>
         ensures answer { IfOk result (λ out. (out, self.new) ≡ step_of self.old item group) }
         ensures unchanged { OnErr result (self.new ≡ self.old) }
     {
