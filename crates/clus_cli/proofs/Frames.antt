@@ -1,19 +1,21 @@
 -- The frames of a session, one more at a time.
-use Rattle.std.proofs.Common.{◌≡◌, ℕ, ◌+◌, ◌-◌, ◌≤◌, Bool, true, false, List, [], ◌∷◌, ◌++◌, length, take, drop, Option, Some, None, refl, sym, subst, append_assoc, arith, inl, inr}
+use Rattle.std.proofs.Common.{◌≡◌, ℕ, ◌+◌, ◌-◌, ◌<◌, ◌≤◌, ◌==◌, ◌&&◌, Bool, true, false, List, [], ◌∷◌, ◌++◌, length, take, drop, Option, Some, None, refl, sym, subst, append_assoc, arith, inl, inr}
 use Rattle.std.specs.Prelude.{IfSome}
 use Rattle.std.proofs.lemmas.List.{append-nil, drop-drop, length-take-le, take-append-drop, take_rest}
 use Rattle.causes.specs.Writing.{Wrote}
 use Rattle.edge_io.specs.Reading.{ReadsAll}
 use Rattle.edge_io.specs.declared.reading.ReadAll.TheVariants.{TooLong}
 use Rattle.rpc_pdu.specs.declared.pdu.Pdu.{Pdu}
+use Rattle.rpc_pdu.specs.declared.pdu.Pdu.TheVariants.{Request, Response, Fault, Bind, BindAck, BindNak, AlterContext, AlterContextResp, Shutdown, CoCancel, Orphaned}
+use Rattle.rpc_pdu.specs.declared.proposal.Proposal.{Proposal}
 use Rattle.rpc_pdu.specs.Encoding.{spelling}
 use Rattle.rpc_pdu.specs.Grammar.{IsPdu}
 use Rattle.rpc_pdu.specs.Header.{peek_at}
 use Rattle.rpc_assoc.specs.declared.assoc.AssocOut.{AssocOut}
-use Rattle.rpc_assoc.specs.Association.{step_of}
+use Rattle.rpc_assoc.specs.Association.{ProposesFew, group_wanted, step_of}
 use Rattle.rpc_assoc.specs.State.{State}
 use Rattle.clus_cli.specs.declared.status.Status.TheVariants.{NotYet}
-use Rattle.clus_cli.specs.Session.{Answers, Ends, IsAnswered, Session, Stops, Writes, answer_of, is_answered, longest_input, reply_in}
+use Rattle.clus_cli.specs.Session.{Answers, Ends, IsAnswered, Session, Stops, Writes, answer_of, is_answered, longest_input, opens, reply_in}
 
 -- Whatever answers the rest completes what was answered before to the answer to all.
 abbrev pub Completes : List ℕ → List ℕ → State → ℕ → Type 0
@@ -78,3 +80,29 @@ refused (Some input) written now told = inl (told.0, refl, wrote_nothing written
 pub stops_at : (s : State) (rest : List ℕ) (size : ℕ) (pdu : Pdu) → Some size ≡ peek_at rest → 16 ≤ size → size ≤ length rest
     → IsPdu (take size rest) pdu → answer_of s pdu ≡ None → Stops s rest
 stops_at s rest size pdu told least within spelled no_answer = (size, sym told, inr (least, within, inr (pdu, spelled, no_answer)))
+
+-- ---- a PDU that is answered proposes one context at the most
+
+no_and_false : (test : Bool) → (test && false) ≡ true → ⊥
+no_and_false true e = cc
+no_and_false false e = cc
+
+opens_few : (group : Option ℕ) (proposals : List Proposal) → opens group proposals ≡ true → length proposals < 256
+opens_few None proposals e = absurd cc
+opens_few (Some group) [] e = omega arith
+opens_few (Some group) (proposal ∷ []) e = omega arith
+opens_few (Some group) (proposal ∷ other ∷ proposals) e = absurd (no_and_false (group == 0) e)
+
+pub answered_few : (s : State) (pdu : Pdu) → is_answered s pdu ≡ true → ProposesFew pdu
+unfolding is_answered
+answered_few s (Bind head xmit recv group proposals) e = opens_few (group_wanted s (Bind head xmit recv group proposals)) proposals e
+answered_few s (AlterContext head xmit recv group proposals) e = absurd cc
+answered_few s (Request head hint context opnum object stub) e = tt
+answered_few s (Response head hint context cancels stub) e = tt
+answered_few s (Fault head hint context cancels status) e = tt
+answered_few s (BindAck head xmit recv group address verdicts) e = tt
+answered_few s (BindNak head reason versions) e = tt
+answered_few s (AlterContextResp head xmit recv group address verdicts) e = tt
+answered_few s (Shutdown head) e = tt
+answered_few s (CoCancel head) e = tt
+answered_few s (Orphaned head) e = tt

@@ -4,11 +4,10 @@ ghost use Rattle.std.specs.Prelude.{◌≡◌, ◌≢◌, ◌↔◌, [], ◌∷�
 ghost use Rattle.causes.specs.Counts.{Rose};
 ghost use Rattle.clus_cli.specs.Session.{Writes};
 
-use edge_io::{ReadAll, Sink, Source, read_whole, write_whole};
-use std::alloc::{AllocError, Global};
-
 use crate::answering::answer_all;
 use crate::status::Status;
+use edge_io::{ReadAll, Sink, Source, read_whole, write_whole};
+use std::alloc::{AllocError, Global};
 
 /// The longest input that is answered, in bytes.
 const LONGEST_INPUT: usize = 262_144;
@@ -22,9 +21,7 @@ pub fn run<S: Source, K: Sink>(
     input: &mut S,
     output: &mut K,
 ) -> Status
-    ensures written {
-        IfSome (S.left input.old) (λ bytes. Writes bytes (K.written output.old) (K.written output.new) result)
-    }
+    ensures written { IfSome (S.left input.old) (λ bytes. Writes bytes (K.written output.old) (K.written output.new) result) }
     ensures usage { (result ≡ Status.Usage) ↔ ¬ (map string_bytes words.now ≡ codes "session" ∷ []) }
     ensures read { result ≡ Status.ReadFault → Rose (S.faults input.old) (S.faults input.new) }
     ensures write { result ≡ Status.WriteFault → Rose (K.faults output.old) (K.faults output.new) }
@@ -36,9 +33,7 @@ pub fn run<S: Source, K: Sink>(
 }
 
 fn session<S: Source, K: Sink>(alloc: Global, input: &mut S, output: &mut K) -> Status
-    ensures written {
-        IfSome (S.left input.old) (λ bytes. Writes bytes (K.written output.old) (K.written output.new) result)
-    }
+    ensures written { IfSome (S.left input.old) (λ bytes. Writes bytes (K.written output.old) (K.written output.new) result) }
     ensures runs { result ≢ Status.Usage }
     ensures read { result ≡ Status.ReadFault → Rose (S.faults input.old) (S.faults input.new) }
     ensures write { result ≡ Status.WriteFault → Rose (K.faults output.old) (K.faults output.new) }
