@@ -1,75 +1,39 @@
 -- Each reply of an association has an encoding.
-use Rattle.std.proofs.Common.{◌≡◌, ℕ, ◌+◌, ◌*◌, ◌<◌, ◌≤◌, Bool, true, false, cond, List, [], ◌∷◌, ◌++◌, length, map, Option, Some, None, Result, Ok, Err, refl, subst, arith, length-append}
+use Rattle.std.proofs.Common.{◌≡◌, ℕ, ◌+◌, ◌*◌, ◌<◌, ◌≤◌, Bool, true, false, cond, List, [], ◌∷◌, ◌++◌, length, map, Option, Some, None, Result, Ok, Err, refl, subst, arith}
 use Rattle.std.specs.Prelude.{IfOk, is_some}
-use Rattle.std.specs.List.{flat_map, list_any}
+use Rattle.std.specs.List.{list_any}
 use Rattle.std.proofs.lemmas.List.{length-map}
-use Rattle.std.proofs.lemmas.List.Concat.{flat_map-cons}
-use Rattle.wire_fields.specs.declared.endian.Endian.TheVariants.{Little}
-use Rattle.wire_fields.specs.Numbers.{num, uuid_text}
-use Rattle.wire_fields.proofs.NumberLaws.{length-num}
 use Rattle.rpc_pdu.specs.declared.pdu.Pdu.{Pdu}
 use Rattle.rpc_pdu.specs.declared.pdu.Pdu.TheVariants.{Request, Response, Fault, Bind, BindAck, BindNak, AlterContext, AlterContextResp, Shutdown, CoCancel, Orphaned}
 use Rattle.rpc_pdu.specs.declared.proposal.Proposal.{Proposal}
 use Rattle.rpc_pdu.specs.declared.verdict.Verdict.{Verdict}
-use Rattle.rpc_pdu.specs.Encoding.{CanSpell, bind_ack_text, bind_nak_text, fault_text, syntax_text, verdict_text, version_text}
+use Rattle.rpc_pdu.specs.Encoding.{CanSpell}
+use Rattle.rpc_pdu.proofs.Answered.{ack_spells, alter_context_resp_spells, fault_spells, nak_spells}
 use Rattle.rpc_assoc.specs.declared.assoc.AssocOut.{AssocOut}
 use Rattle.rpc_assoc.specs.declared.assoc.AssocOut.TheVariants.{Reply, Call, Nothing}
 use Rattle.rpc_assoc.specs.declared.terms.Terms.{Terms}
-use Rattle.rpc_assoc.specs.Answers.{accepts_alter, accepts_bind, fault_on, nak}
+use Rattle.rpc_assoc.specs.Answers.{accepts_alter, accepts_bind, fault_on, head_of, nak}
 use Rattle.rpc_assoc.specs.Association.{ProposesFew, SpellsReply, alter_answer, alter_by, bind_answer, call_answer, call_of, in_group, is_too_small, step_of, terms_for}
 use Rattle.rpc_assoc.specs.State.{State}
 use Rattle.rpc_assoc.specs.Verdicts.{verdict_of}
 
-length-verdict_text : (v : Verdict) → length (verdict_text v) ≡ 24
-unfolding verdict_text syntax_text uuid_text
-length-verdict_text v = omega (arith, length-append {A = ℕ}, length-num)
+-- ---- each PDU that it answers
 
-length-verdicts : (vs : List Verdict) → length (flat_map verdict_text vs) ≡ 24 * length vs
-length-verdicts [] = refl
-length-verdicts (v ∷ vs) =
-    rw flat_map-cons (omega (arith, length-append (verdict_text v) (flat_map verdict_text vs), length-verdict_text v, length-verdicts vs))
+pub fault_on_spells : (call_id context status : ℕ) → CanSpell (fault_on call_id context status)
+fault_on_spells call_id context status = fault_spells (head_of call_id 0x23) 0 context 0 status (omega arith)
 
-length-bind_ack_text : (xmit recv group : ℕ) (vs : List Verdict) → length (bind_ack_text xmit recv group [] vs) ≡ 16 + 24 * length vs
-unfolding bind_ack_text
-length-bind_ack_text xmit recv group vs = omega (arith, length-append {A = ℕ}, length-num, length-verdicts vs)
+nak_answer_spells : (call_id reason : ℕ) → CanSpell (nak call_id reason)
+nak_answer_spells call_id reason = nak_spells (head_of call_id 0x03) reason ((5, 0) ∷ []) (omega arith) refl (omega arith)
 
-pub fault_spells : (call_id context status : ℕ) → CanSpell (fault_on call_id context status)
-unfolding fault_text
-fault_spells call_id context status = record {
-  minor = omega arith;
-  flags = refl;
-  object = tt;
-  counts = tt;
-  size = omega (arith, length-append {A = ℕ}, length-num);
-}
+accepts_bind_spells : (call_id : ℕ) (terms : Terms) (vs : List Verdict) → length vs < 256 → CanSpell (accepts_bind call_id terms vs)
+accepts_bind_spells call_id terms vs few =
+    ack_spells (head_of call_id 0x03) terms.max_xmit terms.max_recv terms.group [] vs (omega arith) refl (omega arith) few
 
-pub nak_spells : (call_id reason : ℕ) → CanSpell (nak call_id reason)
-unfolding bind_nak_text version_text
-nak_spells call_id reason = record {
-  minor = omega arith;
-  flags = refl;
-  object = tt;
-  counts = omega arith;
-  size = omega (arith, length-append {A = ℕ}, length-num);
-}
+accepts_alter_spells : (call_id : ℕ) (terms : Terms) (vs : List Verdict) → length vs < 256 → CanSpell (accepts_alter call_id terms vs)
+accepts_alter_spells call_id terms vs few =
+    alter_context_resp_spells (head_of call_id 0x03) terms.max_xmit terms.max_recv terms.group [] vs (omega arith) refl (omega arith) few
 
-pub ack_spells : (call_id : ℕ) (terms : Terms) (vs : List Verdict) → length vs < 256 → CanSpell (accepts_bind call_id terms vs)
-ack_spells call_id terms vs few = record {
-  minor = omega arith;
-  flags = refl;
-  object = tt;
-  counts = (omega arith, few);
-  size = omega (arith, length-bind_ack_text terms.max_xmit terms.max_recv terms.group vs);
-}
-
-pub alter_spells : (call_id : ℕ) (terms : Terms) (vs : List Verdict) → length vs < 256 → CanSpell (accepts_alter call_id terms vs)
-alter_spells call_id terms vs few = record {
-  minor = omega arith;
-  flags = refl;
-  object = tt;
-  counts = (omega arith, few);
-  size = omega (arith, length-bind_ack_text terms.max_xmit terms.max_recv terms.group vs);
-}
+-- ---- the table
 
 either : (test : Bool) (x y : AssocOut × State) → SpellsReply x.0 → SpellsReply y.0 → SpellsReply (cond test x y).0
 either true x y a b = a
@@ -80,22 +44,22 @@ few_verdicts proposals few = omega (arith, few, length-map proposals verdict_of)
 
 in_group_spells : (s : State) (call_id xmit recv : ℕ) (proposals : List Proposal) (group : Option ℕ) → length proposals < 256
     → SpellsReply (in_group s call_id xmit recv proposals group).0
-in_group_spells s call_id xmit recv proposals None few = nak_spells call_id 0
+in_group_spells s call_id xmit recv proposals None few = nak_answer_spells call_id 0
 in_group_spells s call_id xmit recv proposals (Some group) few =
-    ack_spells call_id (terms_for xmit recv group) (map verdict_of proposals) (few_verdicts proposals few)
+    accepts_bind_spells call_id (terms_for xmit recv group) (map verdict_of proposals) (few_verdicts proposals few)
 
 alter_by_spells : (s : State) (call_id : ℕ) (proposals : List Proposal) (terms : Option Terms) → length proposals < 256
     → SpellsReply (alter_by s call_id proposals terms).0
-alter_by_spells s call_id proposals None few = nak_spells call_id 0
-alter_by_spells s call_id proposals (Some terms) few = alter_spells call_id terms (map verdict_of proposals) (few_verdicts proposals few)
+alter_by_spells s call_id proposals None few = nak_answer_spells call_id 0
+alter_by_spells s call_id proposals (Some terms) few = accepts_alter_spells call_id terms (map verdict_of proposals) (few_verdicts proposals few)
 
 pub step_spells : (s : State) (pdu : Pdu) (group : Option ℕ) → ProposesFew pdu → SpellsReply (step_of s pdu group).0
 unfolding step_of call_answer bind_answer alter_answer
 step_spells s (Request head hint context opnum object stub) group few =
-    either (list_any _ s.accepted) (Call (call_of head context opnum stub), s) (Reply (fault_on head.call_id context 0x1C010003), s) tt (fault_spells head.call_id context 0x1C010003)
+    either (list_any _ s.accepted) (Call (call_of head context opnum stub), s) (Reply (fault_on head.call_id context 0x1C010003), s) tt (fault_on_spells head.call_id context 0x1C010003)
 step_spells s (Bind head xmit recv wanted proposals) group few =
-    either (is_some s.terms) (Reply (nak head.call_id 0), s) _ (nak_spells head.call_id 0)
-    (either (is_too_small xmit recv) (Reply (nak head.call_id 2), s) _ (nak_spells head.call_id 2) (in_group_spells s head.call_id xmit recv proposals group few))
+    either (is_some s.terms) (Reply (nak head.call_id 0), s) _ (nak_answer_spells head.call_id 0)
+    (either (is_too_small xmit recv) (Reply (nak head.call_id 2), s) _ (nak_answer_spells head.call_id 2) (in_group_spells s head.call_id xmit recv proposals group few))
 step_spells s (AlterContext head xmit recv wanted proposals) group few = alter_by_spells s head.call_id proposals s.terms few
 step_spells s (Response head hint context cancels stub) group few = tt
 step_spells s (Fault head hint context cancels status) group few = tt

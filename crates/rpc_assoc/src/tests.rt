@@ -1,5 +1,5 @@
 use super::*;
-use rpc_pdu::{Pdu, decode};
+use rpc_pdu::{Pdu, Verdicts, decode};
 use std::alloc::Global;
 use std::test::*;
 
@@ -39,29 +39,23 @@ fn request(alloc: Global) -> Result<Pdu, Fail> {
     pdu(alloc, &bytes)
 }
 
-/// What the verdicts say, and how many of them accept.
-fn accepted(reply: AssocOut) -> Result<(u16, u16, u32, usize, usize), Fail> {
+/// The group and the verdicts of a reply that has verdicts.
+fn verdicts(reply: AssocOut) -> Result<(u32, Verdicts), Fail> {
     match reply {
         AssocOut::Reply(
             Pdu::BindAck {
-                max_xmit,
-                max_recv,
-                group,
-                verdicts,
-                ..
-            }
-            | Pdu::AlterContextResp {
-                max_xmit,
-                max_recv,
                 group,
                 verdicts,
                 ..
             },
-        ) => {
-            let verdicts = verdicts.as_slice();
-            let accepted = verdicts.iter().filter(|v| v.result == 0).count();
-            Ok((max_xmit, max_recv, group, verdicts.len(), accepted))
-        }
+        ) => Ok((group, verdicts)),
+        AssocOut::Reply(
+            Pdu::AlterContextResp {
+                group,
+                verdicts,
+                ..
+            },
+        ) => Ok((group, verdicts)),
         _ => Err("the reply has verdicts")?,
     }
 }
@@ -97,11 +91,19 @@ fn contexts_are_accepted_by_their_syntaxes(rt: HostRuntime) -> Result<(), Fail> 
     let nowhere = assoc.step(pdu(alloc, &BIND)?, None)?;
     assert_eq!(rt; refusal(nowhere)?, 0);
     let bound = assoc.step(pdu(alloc, &BIND)?, Some(1))?;
-    assert_eq!(rt; accepted(bound)?, (5840, 5840, 1, 3, 1));
+    let (group, bound) = verdicts(bound)?;
+    assert_eq!(rt; group, 1);
+    assert_eq!(rt; bound.as_slice().len(), 3);
+    assert_eq!(rt; bound.as_slice()[0].result, 0);
+    assert_eq!(rt; bound.as_slice()[1].reason, 2);
+    assert_eq!(rt; bound.as_slice()[2].reason, 2);
     let unknown = assoc.step(request(alloc)?, None)?;
     assert_eq!(rt; fault_status(unknown)?, 0x1C01_0003);
     let altered = assoc.step(pdu(alloc, &ALTER_CONTEXT)?, None)?;
-    assert_eq!(rt; accepted(altered)?, (5840, 5840, 1, 1, 1));
+    let (group, altered) = verdicts(altered)?;
+    assert_eq!(rt; group, 1);
+    assert_eq!(rt; altered.as_slice().len(), 1);
+    assert_eq!(rt; altered.as_slice()[0].result, 0);
     let called = assoc.step(request(alloc)?, None)?;
     assert_eq!(rt; operation(called)?, 27);
     let twice = assoc.step(pdu(alloc, &BIND)?, Some(1))?;

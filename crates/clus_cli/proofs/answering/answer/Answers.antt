@@ -1,7 +1,7 @@
 use Rattle.std.proofs.Common.{◌≡◌, true, false, arith}
 use Rattle.rpc_assoc.specs.declared.assoc.AssocOut.TheVariants.{Reply, Call, Nothing}
 use Rattle.clus_cli.specs.Session.{is_answered}
-use Rattle.rpc_assoc.proofs.ReplyLaws.{fault_spells}
+use Rattle.rpc_assoc.proofs.ReplyLaws.{fault_on_spells}
 use Rattle.clus_cli.proofs.Frames.{answered, answered_few, not_answered}
 use Rattle.clus_cli.proofs.answering.answer.Goals as goal
 
@@ -32,4 +32,4 @@ returns-in-Reply-clause-spelled c =
     rw c.in-Reply.is at c.in_ok-reply.ensures.spelled few
 
 pub returns-in-Call-clause-spelled : goal.returns-in-Call-clause-spelled
-returns-in-Call-clause-spelled c = rw c.fault.ensures (fault_spells _ _ _)
+returns-in-Call-clause-spelled c = rw c.fault.ensures (fault_on_spells _ _ _)
