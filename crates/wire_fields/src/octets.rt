@@ -1,6 +1,6 @@
 //! A list of bytes that contracts see as the list.
 
-ghost use Rattle.std.specs.Prelude.{◌≡◌, ℕ, List, IfOk};
+ghost use Rattle.std.specs.Prelude.{◌≡◌, ◌++◌, IfOk, OnErr, OnOk};
 
 use std::alloc::{AllocError, Global};
 use std::marker::Model;
@@ -37,6 +37,14 @@ impl Octets {
     {
         let Octets { bytes } = self;
         bytes
+    }
+
+    /// Adds bytes at the end.
+    pub fn append(&mut self, more: &[u8]) -> Result<(), AllocError>
+        ensures ok { OnOk result (self.new ≡ self.old ++ more.now) }
+        ensures err { OnErr result (self.new ≡ self.old) }
+    {
+        self.bytes.extend_from_slice(more)
     }
 
     pub fn copy(&self, alloc: Global) -> Result<Octets, AllocError>

@@ -35,7 +35,8 @@ fn fields_are_written_in_either_order(rt: HostRuntime) -> Result<(), Fail> {
         LITTLE.as_slice()
     );
     assert_eq!(rt; write_all(&rt, Endian::Big)?.as_slice(), BIG.as_slice());
-    let octets = Octets::new(write_all(&rt, Endian::Big)?);
+    let mut octets = Octets::new(Vec::new(rt.alloc()));
+    octets.append(&write_all(&rt, Endian::Big)?)?;
     assert_eq!(rt; octets.copy(rt.alloc())?.as_slice(), BIG.as_slice());
     Ok(())
 }
