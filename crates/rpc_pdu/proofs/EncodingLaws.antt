@@ -6,8 +6,7 @@ use Rattle.std.proofs.lemmas.List.{append-nil, drop_at, length-replicate}
 use Rattle.std.proofs.lemmas.List.Concat.{flat_map-cons}
 use Rattle.wire_fields.specs.declared.endian.Endian.TheVariants.{Little}
 use Rattle.wire_fields.specs.Lists.{IsList}
-use Rattle.wire_fields.specs.Numbers.{num, uuid_text}
-use Rattle.wire_fields.specs.Reading.{number_in}
+use Rattle.wire_fields.specs.Numbers.{num}
 use Rattle.wire_fields.proofs.FieldLaws.{field_at}
 use Rattle.wire_fields.proofs.NumberLaws.{length-num}
 use Rattle.rpc_pdu.specs.declared.head.Head.{Head}
@@ -18,7 +17,7 @@ use Rattle.rpc_pdu.specs.declared.pdu_type.PduType.TheVariants as types
 use Rattle.rpc_pdu.specs.declared.proposal.Proposal.{Proposal}
 use Rattle.rpc_pdu.specs.declared.syntax.Syntax.{Syntax}
 use Rattle.rpc_pdu.specs.declared.verdict.Verdict.{Verdict}
-use Rattle.rpc_pdu.specs.Encoding.{BodyInRange, CanSpell, CountsFit, HeadInRange, InRange, ObjectFits, ProposalInRange, SyntaxInRange, VerdictInRange, VersionInRange, bind_ack_text, bind_nak_text, bind_text, body_text, fault_text, frame_text, in_little, little, object_text, proposal_text, request_text, response_text, spelling, syntax_text, verdict_text, version_text}
+use Rattle.rpc_pdu.specs.Encoding.{BodyInRange, CanSpell, CountsFit, InRange, ObjectFits, ProposalInRange, SyntaxInRange, VerdictInRange, VersionInRange, bind_ack_text, bind_nak_text, bind_text, body_text, fault_text, frame_text, in_little, little, object_text, proposal_text, request_text, response_text, spelling, syntax_text, verdict_text, version_text}
 use Rattle.rpc_pdu.specs.Flags.{flags_fit, has_flag}
 use Rattle.rpc_pdu.specs.Grammar.{IsBindAckBody, IsBindBody, IsBody, IsObject, IsPdu, IsProposal, IsSyntax, IsVerdict, IsVersion}
 use Rattle.rpc_pdu.specs.Header.{IsHeader}
