@@ -1,6 +1,8 @@
 -- The canonical encoding of a PDU spells it, in little-endian order.
-use Rattle.std.proofs.Common.{◌≡◌, ℕ, ◌+◌, ◌^◌, ◌<◌, ◌≤◌, List, [], ◌∷◌, ◌++◌, length, drop, replicate, Option, Some, None, refl, sym, ap, ◌∙◌, subst, append_assoc, arith, length-append}
-use Rattle.std.specs.Prelude.{IfSome, is_some, IsTrue}
+use Rattle.std.proofs.Common.{◌≡◌, ℕ, ◌+◌, ◌^◌, ◌<◌, ◌≤◌, List, [], ◌∷◌, ◌++◌, length, drop, replicate, Option, Some, None, Result, Ok, Err, refl, sym, ap, ◌∙◌, subst, append_assoc, arith, length-append}
+use Rattle.std.specs.Prelude.{IfOk, IfSome, IsTrue, OnOk, is_some}
+use Rattle.std.specs.Global.{Vec}
+use Rattle.std.specs.declared.alloc.AllocError.{AllocError}
 use Rattle.std.specs.List.{flat_map, AllByRecursion}
 use Rattle.std.proofs.lemmas.List.{append-nil, drop_at, length-replicate}
 use Rattle.std.proofs.lemmas.List.Concat.{flat_map-cons}
@@ -17,7 +19,7 @@ use Rattle.rpc_pdu.specs.declared.pdu_type.PduType.TheVariants as types
 use Rattle.rpc_pdu.specs.declared.proposal.Proposal.{Proposal}
 use Rattle.rpc_pdu.specs.declared.syntax.Syntax.{Syntax}
 use Rattle.rpc_pdu.specs.declared.verdict.Verdict.{Verdict}
-use Rattle.rpc_pdu.specs.Encoding.{BodyInRange, CanSpell, CountsFit, InRange, ObjectFits, ProposalInRange, SyntaxInRange, VerdictInRange, VersionInRange, bind_ack_text, bind_nak_text, bind_text, body_text, fault_text, frame_text, in_little, little, object_text, proposal_text, request_text, response_text, spelling, syntax_text, verdict_text, version_text}
+use Rattle.rpc_pdu.specs.Encoding.{BodyInRange, CanSpell, CountsFit, HeadInRange, InRange, ObjectFits, ProposalInRange, SyntaxInRange, VerdictInRange, VersionInRange, bind_ack_text, bind_nak_text, bind_text, body_text, fault_text, frame_text, in_little, little, object_text, proposal_text, request_text, response_text, spelling, syntax_text, verdict_text, version_text}
 use Rattle.rpc_pdu.specs.Flags.{flags_fit, has_flag}
 use Rattle.rpc_pdu.specs.Grammar.{IsBindAckBody, IsBindBody, IsBody, IsObject, IsPdu, IsProposal, IsSyntax, IsVerdict, IsVersion}
 use Rattle.rpc_pdu.specs.Header.{IsHeader}
@@ -287,3 +289,16 @@ encoding_spells p can range =
           (subst (λ (h : Head). IsHeader (frame_text kind head body) kind h) (sym (head_in_little p)) framed);
       body = subst P (sym (frame_body kind head body)) (body_spelled p can.object can.counts range.1);
     }
+
+same_frame : (j k : PduType) (g h : Head) (a b : List ℕ) → j ≡ k → g ≡ h → a ≡ b → frame_text j g a ≡ frame_text k h b
+same_frame j k g h a b kinds heads bodies = cc
+
+-- What encode ensures: it framed the body.
+pub framed_spells : (p : Pdu) (r : Result (Vec ℕ) AllocError) (ptype : PduType) (head : Head) (body : List ℕ) → ptype ≡ type_of p → head ≡ head_in p → body ≡ body_text p → CanSpell p → BodyInRange p
+    → OnOk r (HeadInRange head) → IfOk r (λ bytes. bytes.items ≡ frame_text ptype head body) → IfOk r (λ bytes. IsPdu bytes.items (in_little p))
+unfolding spelling
+framed_spells p (Ok bytes) ptype head body type-is head-is body-is can range head-range text =
+    let whole : bytes.items ≡ frame_text (type_of p) (head_in p) (body_text p) = text ∙ same_frame ptype (type_of p) head (head_in p) body (body_text p) type-is head-is body-is in
+    let spelled = encoding_spells p can (subst HeadInRange head-is head-range, range) in
+    subst (λ (t : List ℕ). IsPdu t (in_little p)) (sym whole) spelled
+framed_spells p (Err e) ptype head body type-is head-is body-is can range head-range text = tt
