@@ -190,7 +190,7 @@ fn bind(alloc: Global, fields: &mut Fields<'_>) -> Result<BindBody, PduFault>
     let count = fields.u8()?;
     fields.take(3)?;
     let proposals = Proposals::new(proposals_in(alloc, count, fields)?);
-    if fields.left() > 0 {
+    if fields.left() != 0 {
         return Err(PduFault::BadLength);
     }
     Ok(BindBody {
