@@ -2,15 +2,16 @@
 use Rattle.std.proofs.Common.{◌≡◌, ℕ, ◌+◌, ◌<◌, ◌≤◌, ◌^◌, ◌≢◌, Bool, true, false, cond, eqb, ltb, List, [], ◌∷◌, ◌++◌, length, get_or, Option, Some, None, Err, refl, sym, ap, subst, ◌∙◌, append_assoc, length-append, All, arith}
 use Rattle.std.specs.Prelude.{count_by}
 use Rattle.std.specs.List.{onto_first}
-use Rattle.std.proofs.lemmas.Bool.{ltb-false, le-ltb}
+use Rattle.std.proofs.lemmas.Bool.{ltb-true, ltb-false, le-ltb}
 use Rattle.std.proofs.lemmas.Bool.Decides.{nat_tests}
 use Rattle.std.proofs.lemmas.List.{append-nil}
 use Rattle.std.proofs.lemmas.List.Elements.{All-nil, All-cons, All-head, All-tail, All-append, All-from_get_or}
+use Rattle.std.proofs.lemmas.List.Sums.{AllPass-from_list_all}
 use Rattle.std.proofs.lemmas.List.Splits.{slice_split_at, slice_split_none, length-slice_split, join_with_byte-slice_split}
 use Rattle.clus_names.specs.declared.fault.NameFault.{NameFault}
 use Rattle.clus_names.specs.declared.fault.NameFault.TheVariants.{TooLong, EmptyPart, PartTooLong}
 use Rattle.clus_names.specs.Parts.{separator, is_separator, text_of, pieces_of, parts_of, without_empty_end, joined_text}
-use Rattle.clus_names.specs.Limits.{LacksZero, IsNameUnit, IsPart, IsPath, IsPathText}
+use Rattle.clus_names.specs.Limits.{LacksZero, IsNameUnit, IsName, IsPart, IsPath, IsPathText}
 use Rattle.clus_names.specs.Faults.{part_fault, or_else, first_fault, text_fault, GivesPath}
 use Rattle.clus_names.proofs.Pieces.{all_kept}
 
@@ -188,7 +189,12 @@ joined_paths above below h k =
 -- ---- what `parse` owes
 
 pub name_units : (units : List ℕ) → LacksZero units → ((i : ℕ) → get_or units i 0 < 2 ^ 16) → All IsNameUnit units
-name_units units lacks in_range = All-from_get_or IsNameUnit units 0 (λ i l. record { not_zero = lacks i 0 l; in_range = in_range i })
+name_units units lacks in_range =
+    let each = AllPass-from_list_all (λ unit. ltb 0 unit) units lacks in
+    All-from_get_or IsNameUnit units 0 (λ i l. record { not_zero = ltb-true _ _ (each i 0 l); in_range = in_range i })
+
+pub valid_name : (units : List ℕ) → length units ≤ 1023 → LacksZero units → ((i : ℕ) → get_or units i 0 < 2 ^ 16) → IsName units
+valid_name units short lacks in_range = record { short = short; units = name_units units lacks in_range }
 
 pub never_refused : (path : List (List ℕ)) (text : List ℕ) (fault : NameFault) → IsPath path → text_of path ≡ text → Some fault ≡ text_fault text → GivesPath (Err fault) path
 never_refused path text fault valid is refused =

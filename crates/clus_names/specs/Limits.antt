@@ -1,9 +1,13 @@
 -- Which names and paths there are.
-use Rattle.std.specs.Prelude.{◌≡◌, ℕ, ◌<◌, ◌≤◌, ◌^◌, ◌≢◌, List, length, All}
+use Rattle.std.specs.Prelude.{◌≡◌, ℕ, ◌<◌, ◌≤◌, ◌^◌, ◌≢◌, List, length, All, Bool, IsTrue, nat_lt}
+use Rattle.std.specs.List.{list_all}
 use Rattle.clus_names.specs.Parts.{separator, text_of, parts_of}
 
+abbrev pub lacks_zero : List ℕ → Bool
+lacks_zero units = list_all (λ unit. nat_lt 0 unit) units
+
 abbrev pub LacksZero : List ℕ → Type 0
-LacksZero units = All (λ unit. 0 < unit) units
+LacksZero units = IsTrue (lacks_zero units)
 
 -- A unit of UTF-16 that a name may have.
 pub record IsNameUnit (unit : ℕ) : Type 0 where

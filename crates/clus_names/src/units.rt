@@ -1,5 +1,5 @@
 ghost use Rattle.std.specs.Prelude.{◌≡◌, ◌<◌, All, IfOk, IsTrue, ◌↔◌};
-ghost use Rattle.clus_names.specs.Limits.{LacksZero};
+ghost use Rattle.clus_names.specs.Limits.{lacks_zero};
 
 use std::alloc::{AllocError, Global};
 use std::marker::Model;
@@ -49,7 +49,7 @@ impl Units {
 
 /// The condition of `Name::new` and `Path::parse`.
 pub fn lacks_zero(units: &[u16]) -> bool
-    ensures { IsTrue result ↔ LacksZero units.now }
+    ensures { result ≡ lacks_zero units.now }
 {
     units.iter().all(|unit| 0 < *unit)
 }
