@@ -19,6 +19,11 @@ judged obeys end place (Some x) =
 abbrev pub field_at : {A : Type 0} → (Reading → Option (A × Reading)) → (A → Bool) → ℕ → Reading → Result (A × Reading) ℕ
 field_at one obeys end s = judged obeys end s.place (one s)
 
+-- Something that is at fault as a whole where it is cut off.
+abbrev pub whole : {A : Type 0} → ℕ → Option (A × Reading) → Result (A × Reading) ℕ
+whole place None = Err place
+whole place (Some x) = Ok x
+
 -- Where a format sets no end: no list of bytes is longer.
 abbrev pub no_end : ℕ
 no_end = 2 ^ 64 - 1

@@ -1,5 +1,5 @@
 -- Reading updates and records from left to right, with the place of the first field at fault.
-use Rattle.std.specs.Prelude.{◌≡◌, ℕ, ◌+◌, ◌-◌, ◌^◌, List, [], length, Bool, ◌&&◌, Option, Some, None, Result, Ok, Err, is_none, nat_lt, nat_le, ◌==◌, if◌then◌else◌}
+use Rattle.std.specs.Prelude.{◌≡◌, ℕ, ◌+◌, ◌-◌, ◌^◌, List, [], length, Bool, ◌&&◌, Option, Some, None, Result, Ok, Err, is_none, min, nat_lt, nat_le, ◌==◌, if◌then◌else◌}
 use Rattle.wire_fields.specs.declared.endian.Endian.TheVariants.{Little}
 use Rattle.wire_fields.specs.Reading.{Reading, bytes_at, number_at, times}
 use Rattle.clus_names.specs.Parts.{parts_of, text_of}
@@ -95,8 +95,11 @@ single_at kind s = do
   Ok (single c.0, c.1)
 
 -- A batch ends within the 57,310 bytes from its kind on.
+abbrev pub batch_end : ℕ → ℕ
+batch_end place = min (place + 57310) no_end
+
 abbrev pub kind_at : ℕ → ℕ → Reading → Result (Update × Reading) ℕ
-kind_at place kind s = if kind == 5 then batch_at (place + 57310) s else single_at kind s
+kind_at place kind s = if kind == 5 then batch_at (batch_end place) s else single_at kind s
 
 unfoldable pub update_at : Reading → Result (Update × Reading) ℕ
 update_at s = do

@@ -1,6 +1,8 @@
 -- What a call of a reader gave, unless memory ran out.
-use Rattle.std.specs.Prelude.{◌≡◌, ℕ, Result, Ok, Err}
+use Rattle.std.specs.Prelude.{◌≡◌, ℕ, List, Bool, true, false, Result, Ok, Err}
 use Rattle.wire_fields.specs.Reading.{Reading}
+use Rattle.clus_names.specs.Parts.{parts_of}
+use Rattle.update_records.specs.Grammar.{is_path_text}
 use Rattle.update_records.specs.declared.fault.RecordFault.{RecordFault}
 use Rattle.update_records.specs.declared.fault.RecordFault.TheVariants.{Bad, Memory}
 
@@ -17,3 +19,9 @@ Takes view (Err fault) read now = FailsAt fault read
 abbrev pub Decodes : {X : Type 0} → Result X RecordFault → Result X ℕ → Type 0
 Decodes (Ok x) read = read ≡ Ok x
 Decodes (Err fault) read = FailsAt fault read
+
+-- The path with this text, or a fault where there is none.
+abbrev pub JudgesPath : Result (List (List ℕ)) RecordFault → List ℕ → ℕ → Type 0
+JudgesPath (Ok path) text place = (is_path_text text ≡ true) × (path ≡ parts_of text)
+JudgesPath (Err (Bad at)) text place = (is_path_text text ≡ false) × (at ≡ place)
+JudgesPath (Err Memory) text place = Unit {0}

@@ -6,7 +6,9 @@
 
 mod change;
 mod changes;
+mod decoding;
 mod fault;
+mod reading;
 mod update;
 mod update_id;
 mod update_record;
