@@ -1,9 +1,11 @@
 -- A change that is read is spelled so, and a change that is spelled so is read.
-use Rattle.std.proofs.Common.{◌≡◌, ℕ, zero, suc, ◌+◌, ◌-◌, ◌<◌, ◌≤◌, ◌^◌, Bool, true, false, cond, eqb, List, [], ◌∷◌, ◌++◌, length, Option, Some, None, Result, Ok, Err, refl, sym, ap, ◌∙◌, subst, append_assoc, length-append, All, arith}
+use Rattle.std.proofs.Common.{◌≡◌, ℕ, zero, suc, ◌+◌, ◌-◌, ◌<◌, ◌≤◌, ◌^◌, Bool, true, false, cond, eqb, List, [], ◌∷◌, ◌++◌, length, Option, Some, None, Result, Ok, Err, refl, sym, ap, ◌∙◌, subst, append_assoc, length-append, get_or, take, All, arith}
 use Rattle.std.specs.List.{flat_map}
 use Rattle.std.proofs.lemmas.Bool.Decides.{nat_tests}
 use Rattle.std.proofs.lemmas.List.Concat.{flat_map-cons}
-use Rattle.std.proofs.lemmas.List.Elements.{All-nil, All-cons, All-head, All-tail}
+use Rattle.std.proofs.lemmas.List.Elements.{All-nil, All-cons, All-head, All-tail, All-more}
+use Rattle.std.proofs.lemmas.List.{append-nil, take_more}
+use Rattle.std.proofs.lemmas.Grind.{flat_map-append}
 use Rattle.wire_fields.specs.declared.endian.Endian.TheVariants.{Little}
 use Rattle.wire_fields.specs.Numbers.{IsBytes, num}
 use Rattle.wire_fields.specs.Reading.{Reading, number_at}
@@ -104,16 +106,19 @@ rest_found kind key birth end s t x least most before e = first (eqb kind 1) ref
     fourth one two three e =
         let is : kind ≡ 4 = grind (arith, nat_tests) in
         delete_key_found key birth end s t x (subst (λ k. TookKey k key birth s t) is before) e
+
     third : (b : Bool) → eqb kind 3 ≡ b → eqb kind 1 ≡ false → eqb kind 2 ≡ false → either b (delete_value_at key birth end t) (delete_key_at key birth end t) ≡ Ok x → FoundChange end s x.0 x.1
     third true three one two e =
         let is : kind ≡ 3 = grind (arith, nat_tests) in
         delete_value_found key birth end s t x (subst (λ k. TookKey k key birth s t) is before) e
     third false three one two e = fourth one two three e
+
     second : (b : Bool) → eqb kind 2 ≡ b → eqb kind 1 ≡ false → either b (set_value_at key birth end t) (either (eqb kind 3) (delete_value_at key birth end t) (delete_key_at key birth end t)) ≡ Ok x → FoundChange end s x.0 x.1
     second true two one e =
         let is : kind ≡ 2 = grind (arith, nat_tests) in
         set_value_found key birth end s t x (subst (λ k. TookKey k key birth s t) is before) e
     second false two one e = third (eqb kind 3) refl one two e
+
     first : (b : Bool) → eqb kind 1 ≡ b → either b (create_at key birth end t) (either (eqb kind 2) (set_value_at key birth end t) (either (eqb kind 3) (delete_value_at key birth end t) (delete_key_at key birth end t))) ≡ Ok x → FoundChange end s x.0 x.1
     first true one e =
         let is : kind ≡ 1 = grind (arith, nat_tests) in
@@ -188,10 +193,10 @@ unfolding delete_value_at
 delete_value_read key birth name end place rest h room =
     rw (name_read end place name rest h.fields.1 room) refl
 
-abbrev value_text : List ℕ → ℕ → List ℕ → List ℕ
+abbrev pub value_text : List ℕ → ℕ → List ℕ → List ℕ
 value_text name kind bytes = name_text name ++ (num Little 4 kind ++ data_text bytes)
 
-length-value_text : (name : List ℕ) (kind : ℕ) (bytes : List ℕ) → length (value_text name kind bytes) ≡ length (name_text name) + 4 + length (data_text bytes)
+pub length-value_text : (name : List ℕ) (kind : ℕ) (bytes : List ℕ) → length (value_text name kind bytes) ≡ length (name_text name) + 4 + length (data_text bytes)
 length-value_text name kind bytes = omega (arith, length-append (name_text name) (num Little 4 kind ++ data_text bytes), length-append (num Little 4 kind) (data_text bytes), length-num Little 4 kind)
 
 set_value_read : (key : List (List ℕ)) (birth : ℕ) (name : List ℕ) (kind : ℕ) (bytes : List ℕ) (end place : ℕ) (rest : List ℕ) → IsChange (SetValue key birth name kind bytes) → place + length (value_text name kind bytes) ≤ end
@@ -206,7 +211,7 @@ set_value_read key birth name kind bytes end place rest h room =
     rw (split, named, kinded, filled) (ap (λ p. Ok (SetValue key birth name kind bytes, at Little p rest)) (omega arith))
 
 -- What stands behind the birth.
-abbrev rest_text : Change → List ℕ
+abbrev pub rest_text : Change → List ℕ
 rest_text (Create key birth subkey) = name_text (text_of subkey)
 rest_text (SetValue key birth name kind bytes) = value_text name kind bytes
 rest_text (DeleteValue key birth name) = name_text name
@@ -218,13 +223,13 @@ kind_of (SetValue key birth name kind bytes) = 2
 kind_of (DeleteValue key birth name) = 3
 kind_of (DeleteKey key birth subkey) = 4
 
-abbrev key_of : Change → List (List ℕ)
+abbrev pub key_of : Change → List (List ℕ)
 key_of (Create key birth subkey) = key
 key_of (SetValue key birth name kind bytes) = key
 key_of (DeleteValue key birth name) = key
 key_of (DeleteKey key birth subkey) = key
 
-abbrev birth_of : Change → ℕ
+abbrev pub birth_of : Change → ℕ
 birth_of (Create key birth subkey) = birth
 birth_of (SetValue key birth name kind bytes) = birth
 birth_of (DeleteValue key birth name) = birth
@@ -245,7 +250,7 @@ rest_read (DeleteValue key birth name) end place rest h room = delete_value_read
 rest_read (DeleteKey key birth subkey) end place rest h room = delete_key_read key birth subkey end place rest h room
 
 -- What stands behind the kind.
-abbrev body_text : Change → List ℕ
+abbrev pub body_text : Change → List ℕ
 body_text c = name_text (text_of (key_of c)) ++ (num Little 8 (birth_of c) ++ rest_text c)
 
 pub change_parts : (c : Change) → change_text c ≡ num Little 1 (kind_of c) ++ body_text c
@@ -255,7 +260,7 @@ change_parts (SetValue key birth name kind bytes) = simp append_assoc
 change_parts (DeleteValue key birth name) = simp append_assoc
 change_parts (DeleteKey key birth subkey) = simp append_assoc
 
-length-body_text : (c : Change) → length (body_text c) ≡ length (name_text (text_of (key_of c))) + 8 + length (rest_text c)
+pub length-body_text : (c : Change) → length (body_text c) ≡ length (name_text (text_of (key_of c))) + 8 + length (rest_text c)
 length-body_text c = omega (arith, length-append (name_text (text_of (key_of c))) (num Little 8 (birth_of c) ++ rest_text c), length-append (num Little 8 (birth_of c)) (rest_text c), length-num Little 8 (birth_of c))
 
 pub body_read : (c : Change) (end place : ℕ) (rest : List ℕ) → IsChange c → place + length (body_text c) ≤ end
@@ -272,7 +277,7 @@ body_read c end place rest h room =
     let filled = rest_read c end (place + length (name_text (text_of key)) + 8) rest h (omega arith) in
     rw (split, keyed, born, filled) (ap (λ p. Ok (c, at Little p rest)) (omega arith))
 
-kinds : (c : Change) → (1 ≤ kind_of c) × (kind_of c ≤ 4)
+pub kinds : (c : Change) → (1 ≤ kind_of c) × (kind_of c ≤ 4)
 kinds (Create key birth subkey) = (omega arith, omega arith)
 kinds (SetValue key birth name kind bytes) = (omega arith, omega arith)
 kinds (DeleteValue key birth name) = (omega arith, omega arith)
@@ -303,3 +308,15 @@ changes_read (c ∷ cs) end place rest h room =
     let first = change_read c end place (flat_map change_text cs ++ rest) (All-head IsChange c cs h) (omega arith) in
     let others = changes_read cs end (place + length (change_text c)) rest (All-tail IsChange c cs h) (omega arith) in
     rw (split, first, others) (ap (λ p. Ok (c ∷ cs, at Little p rest)) (omega arith))
+
+-- ---- one change more
+
+pub changes_more : (before : List ℕ) (cs : List Change) (i : ℕ) (c : Change) → i < length cs → c ≡ get_or cs i c → (before ++ flat_map change_text (take i cs)) ++ change_text c ≡ before ++ flat_map change_text (take (i + 1) cs)
+changes_more before cs i c lt is =
+    let more : take (i + 1) cs ≡ take i cs ++ c ∷ [] = take_more cs i c lt ∙ ap (λ x. take i cs ++ x ∷ []) (sym is) in
+    let one : flat_map change_text (c ∷ []) ≡ change_text c = flat_map-cons change_text c [] ∙ append-nil (change_text c) in
+    let text : flat_map change_text (take (i + 1) cs) ≡ flat_map change_text (take i cs) ++ change_text c = ap (flat_map change_text) more ∙ flat_map-append change_text (take i cs) (c ∷ []) ∙ ap (λ t. flat_map change_text (take i cs) ++ t) one in
+    append_assoc before (flat_map change_text (take i cs)) (change_text c) ∙ ap (λ t. before ++ t) (sym text)
+
+pub each_more : (cs : List Change) (i : ℕ) (c : Change) → i < length cs → c ≡ get_or cs i c → All IsChange (take i cs) → IsChange c → All IsChange (take (i + 1) cs)
+each_more cs i c lt is each next = All-more IsChange cs i c lt each (subst IsChange is next)

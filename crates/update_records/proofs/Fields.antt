@@ -61,9 +61,11 @@ field_found {A} one obeys end s x t e = by (one s) refl e
     passed : (b : Bool) (y : A × Reading) → cond {A = Result (A × Reading) ℕ} b (Ok y) (Err s.place) ≡ Ok (x, t) → (b ≡ true) × (y ≡ (x, t))
     passed true y e = (refl, cc)
     passed false y e = absurd cc
+
     not_past : (b : Bool) (y : A × Reading) → kept b s.place (cond {A = Result (A × Reading) ℕ} (obeys y.0) (Ok y) (Err s.place)) ≡ Ok (x, t) → (b ≡ false) × (obeys y.0 ≡ true) × (y ≡ (x, t))
     not_past true y e = absurd cc
     not_past false y e = let p = passed (obeys y.0) y e in (refl, p.0, p.1)
+
     by : (read : Option (A × Reading)) → one s ≡ read → judged obeys end s.place read ≡ Ok (x, t) → WasField one obeys end s x t
     by None is e = absurd cc
     by (Some y) is e =
@@ -195,9 +197,9 @@ unfolding units_at name_text
 units_read low high obeys end place units rest limit least most obeyed each room =
     let long = length-name_text units in
     let count : field_at (number_at 2) (between low high) end (at Little place (num Little 2 (length units) ++ (units_text units ++ rest))) ≡ Ok (length units, at Little (place + 2) (units_text units ++ rest)) =
-        bounded_read 2 low high end place (length units) (units_text units ++ rest) (omega arith) least most (omega arith) in
+    bounded_read 2 low high end place (length units) (units_text units ++ rest) (omega arith) least most (omega arith) in
     let list : times (length units) (number_at 2) (at Little (place + 2) (units_text units ++ rest)) ≡ Some (units, at Little (place + 2 + length (units_text units)) rest) =
-        list_read (number_at 2) is_unit unit_read Little (place + 2) units (units_text units) rest (units_listed units each) in
+    list_read (number_at 2) is_unit unit_read Little (place + 2) units (units_text units) rest (units_listed units each) in
     let behind : place + 2 + length (units_text units) ≡ place + length (num Little 2 (length units) ++ units_text units) = omega (arith, length-append (num Little 2 (length units)) (units_text units), length-num Little 2 (length units)) in
     let field = field_read (times (length units) (number_at 2)) obeys end (at Little (place + 2) (units_text units ++ rest)) units (at Little (place + 2 + length (units_text units)) rest) list (omega arith) obeyed in
     rw (append_assoc (num Little 2 (length units)) (units_text units) rest, count) (field ∙ ap (λ p. Ok (units, at Little p rest)) behind)
@@ -304,9 +306,9 @@ unfolding data_at data_text
 data_read end place bytes rest short room =
     let long = length-data_text bytes in
     let count : field_at (number_at 4) (between 0 49152) end (at Little place (num Little 4 (length bytes) ++ (bytes ++ rest))) ≡ Ok (length bytes, at Little (place + 4) (bytes ++ rest)) =
-        bounded_read 4 0 49152 end place (length bytes) (bytes ++ rest) (omega arith) (omega arith) short (omega arith) in
+    bounded_read 4 0 49152 end place (length bytes) (bytes ++ rest) (omega arith) (omega arith) short (omega arith) in
     let run : bytes_at (length bytes) (at Little (place + 4) (bytes ++ rest)) ≡ Some (bytes, at Little (place + 4 + length bytes) rest) =
-        bytes_read Little (place + 4) (length bytes) bytes rest refl in
+    bytes_read Little (place + 4) (length bytes) bytes rest refl in
     let behind : place + 4 + length bytes ≡ place + length (num Little 4 (length bytes) ++ bytes) = omega (arith, length-append (num Little 4 (length bytes)) bytes, length-num Little 4 (length bytes)) in
     let field = field_read (bytes_at (length bytes)) anything end (at Little (place + 4) (bytes ++ rest)) bytes (at Little (place + 4 + length bytes) rest) run (omega arith) refl in
     rw (append_assoc (num Little 4 (length bytes)) bytes rest, count) (field ∙ ap (λ p. Ok (bytes, at Little p rest)) behind)

@@ -1,9 +1,10 @@
 -- Records of the update order, as contracts see them.
-use Rattle.std.specs.Prelude.{ℕ, ◌<◌, ◌≤◌, ◌^◌, List, ◌++◌}
+use Rattle.std.specs.Prelude.{◌≡◌, ℕ, ◌<◌, ◌≤◌, ◌^◌, List, ◌++◌}
 use Rattle.wire_fields.specs.declared.endian.Endian.TheVariants.{Little}
 use Rattle.wire_fields.specs.Numbers.{num}
 use Rattle.update_records.specs.declared.update_id.UpdateId.{UpdateId}
 use Rattle.update_records.specs.declared.update.Update.{Update}
+use Rattle.update_records.specs.declared.update.Update.TheVariants.{Batch, Create, SetValue, DeleteValue, DeleteKey}
 use Rattle.update_records.specs.Validity.{IsValid}
 use Rattle.update_records.specs.Spelling.{update_text}
 use Rattle.update_records.specs.Limits.{IsUpdate}
@@ -13,6 +14,9 @@ pub record Entry : Type 0 where
   pub stamp : ℕ
   pub id : UpdateId
   pub update : Update
+
+abbrev pub entry_of : ℕ × ℕ × UpdateId × Update → Entry
+entry_of x = record { place = x.0; stamp = x.1; id = x.2; update = x.3 }
 
 -- What each record keeps.
 pub record IsPlaced (place : ℕ) (update : Update) : Type 0 where
@@ -44,3 +48,12 @@ record_text entry = num Little 8 entry.place ++ num Little 8 entry.stamp ++ id_t
 -- In version 1 of the format a record has no stamp.
 unfoldable pub first_text : Entry → List ℕ
 first_text entry = num Little 8 entry.place ++ id_text entry.id ++ update_text entry.update
+
+abbrev pub IsNoBatch : Update → Type 0
+IsNoBatch (Batch changes) = ⊥
+IsNoBatch update = Unit {0}
+
+-- What version 1 can say.
+pub record IsFirst (entry : Entry) : Type 0 where
+  pub no_stamp : entry.stamp ≡ 0
+  pub no_batch : IsNoBatch entry.update

@@ -109,13 +109,16 @@ update_at s = do
 unfoldable pub id_at : Reading → Result (UpdateId × Reading) ℕ
 id_at s = do
   node ← field_at (number_at 2) (between 1 16) no_end s
-  inc ← field_at (number_at 8) (between 1 (2 ^ 64 - 1)) no_end node.1
-  req ← field_at (number_at 8) (between 1 (2 ^ 64 - 1)) no_end inc.1
+  inc ← field_at (number_at 8) (between 1 no_end) no_end node.1
+  req ← field_at (number_at 8) (between 1 no_end) no_end inc.1
   Ok (record { node = node.0; inc = inc.0; req = req.0 }, req.1)
+
+abbrev pub last_place : ℕ
+last_place = 2 ^ 63 - 1
 
 unfoldable pub record_at : Reading → Result (Entry × Reading) ℕ
 record_at s = do
-  place ← field_at (number_at 8) (between 1 (2 ^ 63 - 1)) no_end s
+  place ← field_at (number_at 8) (between 1 last_place) no_end s
   stamp ← field_at (number_at 8) anything no_end place.1
   id ← id_at stamp.1
   update ← update_at id.1
@@ -124,7 +127,7 @@ record_at s = do
 -- A record of version 1 has no stamp, and its update is no batch.
 unfoldable pub first_record_at : Reading → Result (Entry × Reading) ℕ
 first_record_at s = do
-  place ← field_at (number_at 8) (between 1 (2 ^ 63 - 1)) no_end s
+  place ← field_at (number_at 8) (between 1 last_place) no_end s
   id ← id_at place.1
   update ← change_at no_end id.1
   Ok (record { place = place.0; stamp = 0; id = id.0; update = single update.0 }, update.1)

@@ -1,6 +1,8 @@
 -- What a call of a reader gave, unless memory ran out.
-use Rattle.std.specs.Prelude.{◌≡◌, ℕ, List, Bool, true, false, Result, Ok, Err}
+use Rattle.std.specs.Prelude.{◌≡◌, ℕ, List, ◌++◌, Bool, true, false, Result, Ok, Err}
+use Rattle.wire_fields.specs.declared.endian.Endian.TheVariants.{Little}
 use Rattle.wire_fields.specs.Reading.{Reading}
+use Rattle.wire_fields.specs.Written.{Written}
 use Rattle.clus_names.specs.Parts.{parts_of}
 use Rattle.update_records.specs.Grammar.{is_path_text}
 use Rattle.update_records.specs.declared.fault.RecordFault.{RecordFault}
@@ -25,3 +27,8 @@ abbrev pub JudgesPath : Result (List (List ℕ)) RecordFault → List ℕ → �
 JudgesPath (Ok path) text place = (is_path_text text ≡ true) × (path ≡ parts_of text)
 JudgesPath (Err (Bad at)) text place = (is_path_text text ≡ false) × (at ≡ place)
 JudgesPath (Err Memory) text place = Unit {0}
+
+-- The text was appended, unless memory ran out.
+abbrev pub Appends : {T E : Type 0} → Result T E → Written → Written → List ℕ → Type 0
+Appends (Ok x) before now text = now ≡ record { endian = Little; bytes = before.bytes ++ text }
+Appends (Err fault) before now text = Unit {0}

@@ -7,14 +7,18 @@
 mod change;
 mod changes;
 mod decoding;
+mod encoding;
 mod fault;
 mod reading;
 mod update;
 mod update_id;
 mod update_record;
+mod writing;
 
 pub use change::Change;
 pub use changes::Changes;
+pub use decoding::{decode, decode_first, decode_update};
+pub use encoding::{encode, encode_update};
 pub use fault::RecordFault;
 pub use update::Update;
 pub use update_id::UpdateId;

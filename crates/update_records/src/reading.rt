@@ -13,6 +13,7 @@ use std::alloc::Global;
 use wire_fields::{Fields, Octets};
 
 const MOST_DATA_BYTES: u32 = 49_152;
+
 const MOST_UNITS: u16 = 1023;
 
 pub fn u8_between(fields: &mut Fields<'_>, low: u8, high: u8, end: usize) -> Result<u8, RecordFault>
@@ -32,7 +33,12 @@ pub fn u8_between(fields: &mut Fields<'_>, low: u8, high: u8, end: usize) -> Res
     Ok(value)
 }
 
-pub fn u16_between(fields: &mut Fields<'_>, low: u16, high: u16, end: usize) -> Result<u16, RecordFault>
+pub fn u16_between(
+    fields: &mut Fields<'_>,
+    low: u16,
+    high: u16,
+    end: usize,
+) -> Result<u16, RecordFault>
     ensures taken { Takes (λ value. value) result (field_at (number_at 2) (between low high) end fields.old) fields.new }
     ensures bounds { IfOk result (λ value. (low ≤ value) × (value ≤ high)) }
 {
@@ -49,7 +55,12 @@ pub fn u16_between(fields: &mut Fields<'_>, low: u16, high: u16, end: usize) -> 
     Ok(value)
 }
 
-pub fn u32_between(fields: &mut Fields<'_>, low: u32, high: u32, end: usize) -> Result<u32, RecordFault>
+pub fn u32_between(
+    fields: &mut Fields<'_>,
+    low: u32,
+    high: u32,
+    end: usize,
+) -> Result<u32, RecordFault>
     ensures taken { Takes (λ value. value) result (field_at (number_at 4) (between low high) end fields.old) fields.new }
     ensures bounds { IfOk result (λ value. (low ≤ value) × (value ≤ high)) }
 {
@@ -66,7 +77,12 @@ pub fn u32_between(fields: &mut Fields<'_>, low: u32, high: u32, end: usize) -> 
     Ok(value)
 }
 
-pub fn u64_between(fields: &mut Fields<'_>, low: u64, high: u64, end: usize) -> Result<u64, RecordFault>
+pub fn u64_between(
+    fields: &mut Fields<'_>,
+    low: u64,
+    high: u64,
+    end: usize,
+) -> Result<u64, RecordFault>
     ensures taken { Takes (λ value. value) result (field_at (number_at 8) (between low high) end fields.old) fields.new }
     ensures bounds { IfOk result (λ value. (low ≤ value) × (value ≤ high)) }
 {
@@ -146,7 +162,13 @@ pub fn name(alloc: Global, fields: &mut Fields<'_>, end: usize) -> Result<Name, 
 
 /// A path whose text has between `low` and `high` units.
 #[tactic(auto, unfolding(crate::specs::Grammar::path_at, crate::specs::Grammar::units_at))]
-pub fn path(alloc: Global, fields: &mut Fields<'_>, low: u16, high: u16, end: usize) -> Result<Path, RecordFault>
+pub fn path(
+    alloc: Global,
+    fields: &mut Fields<'_>,
+    low: u16,
+    high: u16,
+    end: usize,
+) -> Result<Path, RecordFault>
     ensures { Takes (λ path. path) result (path_at low high end fields.old) fields.new }
 {
     let count = u16_between(fields, low, high, end)?;

@@ -6,4 +6,5 @@ use Rattle.update_records.proofs.reading.units.Given as goal
 abbrev pub invariant-units : goal.invariant-units
 invariant-units l = record {
   read : with_front l.units.items (times (l.count - l.counter) (number_at 2) l.fields) ≡ times l.count (number_at 2) l.initial.fields;
-  many : length l.units.items ≡ l.counter }
+  many : length l.units.items ≡ l.counter;
+}
