@@ -23,7 +23,7 @@ use Rattle.update_records.specs.declared.fault.RecordFault.{RecordFault}
 use Rattle.update_records.specs.Outcomes.{Decodes}
 use Rattle.update_records.specs.declared.update_id.UpdateId.{UpdateId}
 use Rattle.update_records.specs.Entry.{Entry, IsPlaced, IsId, IsRecord, IsNoBatch, IsFirst, id_text, record_text, first_text}
-use Rattle.update_records.specs.Grammar.{body_at, change_at, batch_at, single_at, kind_at, update_at, batch_end, start, update_of, id_at, last_place, record_at, first_record_at}
+use Rattle.update_records.specs.Grammar.{body_at, change_at, batch_at, single_at, kind_at, update_at, batch_end, start, update_of, id_at, last_place, record_at, record_of, first_record_at, first_record_of}
 use Rattle.update_records.proofs.Fields.{bind_ok, ok_is, IsInput, input_behind, any_found, any_read, bounded_found, bounded_read, length-name_text, length-data_text}
 use Rattle.update_records.proofs.ChangeLaws.{FoundChange, body_found, change_found, FoundChanges, changes_found, body_text, kind_of, kinds, change_parts, length-change_text, length-body_text, length-value_text, body_read, change_read, changes_read}
 
@@ -217,6 +217,10 @@ pub update_is_found : (bytes : List ℕ) (result : Result Update RecordFault) �
 update_is_found bytes (Ok u) h read = whole_update_found bytes u h read
 update_is_found bytes (Err fault) h read = tt
 
+pub update_is_valid : (bytes : List ℕ) (result : Result Update RecordFault) → IsBytes bytes → Decodes result (update_of bytes) → IfOk result IsValid
+update_is_valid bytes (Ok u) h read = is_valid u (whole_update_found bytes u h read).0
+update_is_valid bytes (Err fault) h read = tt
+
 -- ---- records
 
 pub record FoundId (s : Reading) (id : UpdateId) (t : Reading) : Type 0 where
@@ -295,3 +299,89 @@ first_found s x input e =
       record { no_stamp = refl; no_batch = single_no_batch d.0.0 },
     ) in
     subst (λ (y : Entry × Reading). FoundRecord first_text s y.0 y.1 × IsFirst y.0) (ok_is (entry, d.0.1) x d.2) whole
+
+length-id_text : (id : UpdateId) → length (id_text id) ≡ 18
+unfolding id_text
+length-id_text id = omega (arith, length-append (num Little 2 id.node ++ num Little 8 id.inc) (num Little 8 id.req), length-append (num Little 2 id.node) (num Little 8 id.inc), length-num Little 2 id.node, length-num Little 8 id.inc, length-num Little 8 id.req)
+
+id_read : (id : UpdateId) (place : ℕ) (rest : List ℕ) → IsId id → place + 18 ≤ no_end → id_at (at Little place (id_text id ++ rest)) ≡ Ok (id, at Little (place + 18) rest)
+unfolding id_at id_text
+id_read id place rest h room =
+    let split : (num Little 2 id.node ++ num Little 8 id.inc ++ num Little 8 id.req) ++ rest ≡ num Little 2 id.node ++ (num Little 8 id.inc ++ (num Little 8 id.req ++ rest)) = simp append_assoc in
+    let node = bounded_read 2 1 16 no_end place id.node (num Little 8 id.inc ++ (num Little 8 id.req ++ rest)) (omega (arith, h.last_node)) h.node h.last_node (omega arith) in
+    let inc = bounded_read 8 1 no_end no_end (place + 2) id.inc (num Little 8 id.req ++ rest) (omega (arith, h.last_inc)) h.inc (omega (arith, h.last_inc)) (omega arith) in
+    let req = bounded_read 8 1 no_end no_end (place + 2 + 8) id.req rest (omega (arith, h.last_req)) h.req (omega (arith, h.last_req)) (omega arith) in
+    rw (split, node, inc, req) (ap (λ p. Ok (id, at Little p rest)) (omega arith))
+
+-- The head of a record has 34 bytes, or 26 without the stamp.
+pub record_short : (entry : Entry) → IsUpdate entry.update → length (record_text entry) ≤ 57344
+unfolding record_text
+record_short entry h =
+    let front = num Little 8 entry.place ++ num Little 8 entry.stamp in
+    omega (arith, length-append (front ++ id_text entry.id) (update_text entry.update), length-append front (id_text entry.id), length-append (num Little 8 entry.place) (num Little 8 entry.stamp), length-num Little 8 entry.place, length-num Little 8 entry.stamp, length-id_text entry.id, update_short entry.update h)
+
+whole_at : {A : Type 0} (one : Reading → Result (A × Reading) ℕ) (x : A) (place : ℕ) (text : List ℕ) → one (start text) ≡ Ok (x, at Little place []) → (one (start text) >>= alone) ≡ Ok x
+whole_at one x place text read = rw read refl
+
+pub whole_record_read : (entry : Entry) → IsRecord entry → record_of (record_text entry) ≡ Ok entry
+unfolding record_of record_at record_text
+whole_record_read entry h =
+    let short = update_short entry.update h.update in
+    let update = update_text entry.update in
+    let parts : num Little 8 entry.place ++ num Little 8 entry.stamp ++ id_text entry.id ++ update ≡ num Little 8 entry.place ++ (num Little 8 entry.stamp ++ (id_text entry.id ++ (update ++ []))) = simp (append_assoc, append-nil) in
+    let place = bounded_read 8 1 last_place no_end 0 entry.place (num Little 8 entry.stamp ++ (id_text entry.id ++ (update ++ []))) (omega (arith, h.placed.last)) h.placed.first (omega (arith, h.placed.last)) (omega arith) in
+    let stamp = any_read 8 no_end (0 + 8) entry.stamp (id_text entry.id ++ (update ++ [])) (omega (arith, h.stamp)) (omega arith) in
+    let id = id_read entry.id (0 + 8 + 8) (update ++ []) h.id (omega arith) in
+    let last = update_read entry.update (0 + 8 + 8 + 18) [] h.update (omega (arith, short)) in
+    rw (parts, place, stamp, id, last) refl
+
+first_update : (u : Update) (place : ℕ) (rest : List ℕ) → IsUpdate u → IsNoBatch u → place + length (update_text u) ≤ no_end → (c : Change) × (single c ≡ u) × (change_at no_end (at Little place (update_text u ++ rest)) ≡ Ok (c, at Little (place + length (update_text u)) rest))
+first_update (Batch cs) place rest h kept room = absurd kept
+first_update (Create key birth subkey) place rest h kept room = (change.Create key birth subkey, refl, change_read (change.Create key birth subkey) no_end place rest h room)
+first_update (SetValue key birth name kind bytes) place rest h kept room = (change.SetValue key birth name kind bytes, refl, change_read (change.SetValue key birth name kind bytes) no_end place rest h room)
+first_update (DeleteValue key birth name) place rest h kept room = (change.DeleteValue key birth name, refl, change_read (change.DeleteValue key birth name) no_end place rest h room)
+first_update (DeleteKey key birth subkey) place rest h kept room = (change.DeleteKey key birth subkey, refl, change_read (change.DeleteKey key birth subkey) no_end place rest h room)
+
+pub whole_first_read : (entry : Entry) → IsRecord entry → IsFirst entry → first_record_of (first_text entry) ≡ Ok entry
+unfolding first_record_of first_record_at first_text
+whole_first_read entry h k =
+    let short = update_short entry.update h.update in
+    let update = update_text entry.update in
+    let parts : num Little 8 entry.place ++ id_text entry.id ++ update ≡ num Little 8 entry.place ++ (id_text entry.id ++ (update ++ [])) = simp (append_assoc, append-nil) in
+    let place = bounded_read 8 1 last_place no_end 0 entry.place (id_text entry.id ++ (update ++ [])) (omega (arith, h.placed.last)) h.placed.first (omega (arith, h.placed.last)) (omega arith) in
+    let id = id_read entry.id (0 + 8) (update ++ []) h.id (omega arith) in
+    let last = first_update entry.update (0 + 8 + 18) [] h.update k.no_batch (omega (arith, short)) in
+    let made : ℕ → Update → Entry = λ stamp u. record { place = entry.place; stamp = stamp; id = entry.id; update = u } in
+    rw (parts, place, id, last.2) (ap (λ (e : Entry). Ok e) (ap (made 0) last.1 ∙ ap (λ stamp. made stamp entry.update) (sym k.no_stamp)))
+
+pub whole_record_found : (bytes : List ℕ) (entry : Entry) → IsBytes bytes → record_of bytes ≡ Ok entry → IsRecord entry × (bytes ≡ record_text entry)
+unfolding record_of
+whole_record_found bytes entry h e =
+    let a = bind_ok (record_at (start bytes)) alone entry e in
+    let f = record_found (start bytes) a.0 (started bytes h) a.1 in
+    let last = alone_found a.0 entry a.2 in
+    subst (λ (v : Entry). IsRecord v × (bytes ≡ record_text v)) last.1 (f.is_record, all_taken bytes (record_text a.0.0) a.0.1 f.took last.0)
+
+pub whole_first_found : (bytes : List ℕ) (entry : Entry) → IsBytes bytes → first_record_of bytes ≡ Ok entry → IsRecord entry × IsFirst entry × (bytes ≡ first_text entry)
+unfolding first_record_of
+whole_first_found bytes entry h e =
+    let a = bind_ok (first_record_at (start bytes)) alone entry e in
+    let f = first_found (start bytes) a.0 (started bytes h) a.1 in
+    let last = alone_found a.0 entry a.2 in
+    subst (λ (v : Entry). IsRecord v × IsFirst v × (bytes ≡ first_text v)) last.1 (f.0.is_record, f.1, all_taken bytes (first_text a.0.0) a.0.1 f.0.took last.0)
+
+pub record_is_found : (bytes : List ℕ) (result : Result Entry RecordFault) → IsBytes bytes → Decodes result (record_of bytes) → IfOk result (λ entry. IsRecord entry × (bytes ≡ record_text entry))
+record_is_found bytes (Ok entry) h read = whole_record_found bytes entry h read
+record_is_found bytes (Err fault) h read = tt
+
+pub first_is_found : (bytes : List ℕ) (result : Result Entry RecordFault) → IsBytes bytes → Decodes result (first_record_of bytes) → IfOk result (λ entry. IsRecord entry × IsFirst entry × (bytes ≡ first_text entry))
+first_is_found bytes (Ok entry) h read = whole_first_found bytes entry h read
+first_is_found bytes (Err fault) h read = tt
+
+-- ---- what a record that was read keeps
+
+pub record_placed : (bytes : List ℕ) (x : Entry × Reading) → IsBytes bytes → record_at (start bytes) ≡ Ok x → IsPlaced x.0.place x.0.update
+record_placed bytes x h e = (record_found (start bytes) x (started bytes h) e).is_record.placed
+
+pub first_placed : (bytes : List ℕ) (x : Entry × Reading) → IsBytes bytes → first_record_at (start bytes) ≡ Ok x → IsPlaced x.0.place x.0.update
+first_placed bytes x h e = (first_found (start bytes) x (started bytes h) e).0.is_record.placed

@@ -1,5 +1,5 @@
 -- What a call of a reader gave, unless memory ran out.
-use Rattle.std.specs.Prelude.{◌≡◌, ℕ, List, ◌++◌, Bool, true, false, Result, Ok, Err}
+use Rattle.std.specs.Prelude.{◌≡◌, ℕ, List, ◌++◌, length, Bool, true, false, ◌==◌, Result, Ok, Err}
 use Rattle.wire_fields.specs.declared.endian.Endian.TheVariants.{Little}
 use Rattle.wire_fields.specs.Reading.{Reading}
 use Rattle.wire_fields.specs.Written.{Written}
@@ -21,6 +21,12 @@ Takes view (Err fault) read now = FailsAt fault read
 abbrev pub Decodes : {X : Type 0} → Result X RecordFault → Result X ℕ → Type 0
 Decodes (Ok x) read = read ≡ Ok x
 Decodes (Err fault) read = FailsAt fault read
+
+-- Nothing is left to read.
+abbrev pub Ends : {T : Type 0} → Result T RecordFault → Reading → Type 0
+Ends (Ok x) s = (length s.left == 0) ≡ true
+Ends (Err (Bad place)) s = ((length s.left == 0) ≡ false) × (place ≡ s.place)
+Ends (Err Memory) s = ⊥
 
 -- The path with this text, or a fault where there is none.
 abbrev pub JudgesPath : Result (List (List ℕ)) RecordFault → List ℕ → ℕ → Type 0

@@ -4,8 +4,9 @@ ghost use Rattle.update_records.specs.Checked.{each_at};
 ghost use Rattle.update_records.specs.Grammar.{body_at, change_at, create_at, delete_key_at, delete_value_at, first_record_at, first_record_of, id_at, batch_at, kind_at, record_at, record_of, rest_at, room_below, set_value_at, single_at, update_at, update_of};
 ghost use Rattle.update_records.specs.Entry.{Entry, IsFirst, IsRecord, entry_of, first_text, record_text};
 ghost use Rattle.update_records.specs.Limits.{IsUpdate};
-ghost use Rattle.update_records.specs.Outcomes.{Decodes, Takes};
+ghost use Rattle.update_records.specs.Outcomes.{Decodes, Ends, Takes};
 ghost use Rattle.update_records.specs.Spelling.{update_text};
+ghost use Rattle.update_records.specs.Validity.{IsValid};
 
 use crate::change::Change;
 use crate::changes::Changes;
@@ -24,6 +25,8 @@ const NO_END: usize = usize::MAX;
 
 /// With them a record keeps to 57,344 bytes.
 const MOST_BATCH_BYTES: usize = 57_310;
+
+const FIRST_PLACE: u64 = 1;
 
 const LAST_PLACE: u64 = 9_223_372_036_854_775_807;
 
@@ -194,17 +197,25 @@ fn id(fields: &mut Fields<'_>) -> Result<UpdateId, RecordFault>
     Ok(UpdateId { node, inc, req })
 }
 
+/// Bytes behind the value are at fault at the first of them.
+fn ends(fields: &Fields<'_>) -> Result<(), RecordFault>
+    ensures { Ends result fields.now }
+{
+    if fields.left() != 0 {
+        return Err(RecordFault::Bad {
+            place: fields.place(),
+        });
+    }
+    Ok(())
+}
+
 #[tactic(auto, unfolding(crate::specs::Grammar::update_of))]
 fn read_update(alloc: Global, bytes: &[u8]) -> Result<Update, RecordFault>
     ensures { Decodes result (update_of bytes.now) }
 {
     let mut fields = Fields::new(bytes, Endian::Little);
     let read = update(alloc, &mut fields)?;
-    if fields.left() != 0 {
-        return Err(RecordFault::Bad {
-            place: fields.place(),
-        });
-    }
+    ends(&fields)?;
     Ok(read)
 }
 
@@ -212,6 +223,7 @@ fn read_update(alloc: Global, bytes: &[u8]) -> Result<Update, RecordFault>
 pub fn decode_update(alloc: Global, bytes: &[u8]) -> Result<Update, RecordFault>
     // What is read is an update, and is spelled so.
     ensures found { IfOk result (λ update. IsUpdate update × (bytes.now ≡ update_text update)) }
+    ensures valid { IfOk result IsValid }
     // What is spelled so is read, unless memory runs out.
     ensures only { (update : Update) → IsUpdate update → bytes.now ≡ update_text update → Decodes result (Ok update) }
     // Which field is at fault.
@@ -227,7 +239,7 @@ fn record_fields(
 ) -> Result<(u64, u64, UpdateId, Update), RecordFault>
     ensures { Takes entry_of result (record_at fields.old) fields.new }
 {
-    let place = u64_between(fields, 1, LAST_PLACE, NO_END)?;
+    let place = u64_between(fields, FIRST_PLACE, LAST_PLACE, NO_END)?;
     let stamp = u64_field(fields, NO_END)?;
     let id = id(fields)?;
     let update = update(alloc, fields)?;
@@ -241,7 +253,7 @@ fn first_record_fields(
 ) -> Result<(u64, u64, UpdateId, Update), RecordFault>
     ensures { Takes entry_of result (first_record_at fields.old) fields.new }
 {
-    let place = u64_between(fields, 1, LAST_PLACE, NO_END)?;
+    let place = u64_between(fields, FIRST_PLACE, LAST_PLACE, NO_END)?;
     let id = id(fields)?;
     let change = change(alloc, fields, NO_END)?;
     Ok((place, 0, id, Update::from(change)))
@@ -253,11 +265,7 @@ fn read_record(alloc: Global, bytes: &[u8]) -> Result<Record, RecordFault>
 {
     let mut fields = Fields::new(bytes, Endian::Little);
     let (place, stamp, id, update) = record_fields(alloc, &mut fields)?;
-    if fields.left() != 0 {
-        return Err(RecordFault::Bad {
-            place: fields.place(),
-        });
-    }
+    ends(&fields)?;
     Ok(Record {
         place,
         stamp,
@@ -272,11 +280,7 @@ fn read_first_record(alloc: Global, bytes: &[u8]) -> Result<Record, RecordFault>
 {
     let mut fields = Fields::new(bytes, Endian::Little);
     let (place, stamp, id, update) = first_record_fields(alloc, &mut fields)?;
-    if fields.left() != 0 {
-        return Err(RecordFault::Bad {
-            place: fields.place(),
-        });
-    }
+    ends(&fields)?;
     Ok(Record {
         place,
         stamp,

@@ -23,3 +23,6 @@ pub use fault::RecordFault;
 pub use update::Update;
 pub use update_id::UpdateId;
 pub use update_record::Record;
+
+#[cfg(test)]
+mod tests;
