@@ -1,0 +1,10 @@
+//! Views of the cluster and the messages between its nodes.
+#![tactic(auto)]
+
+mod member;
+mod members;
+mod view;
+
+pub use member::Member;
+pub use members::Members;
+pub use view::View;
