@@ -1,5 +1,6 @@
 -- Looking a node up among members.
-use Rattle.std.proofs.Common.{◌≡◌, ℕ, ◌≤◌, Bool, true, false, List, [], ◌∷◌, length, nat_eq, cond, Some, None, position, find, refl, arith}
+use Rattle.std.proofs.Common.{subst, ◌&&◌, ◌≡◌, ℕ, ◌<◌, ◌≤◌, Bool, true, false, List, [], ◌∷◌, length, nat_eq, cond, Some, None, position, find, refl, arith}
+use Rattle.std.specs.List.{list_all}
 use Rattle.std.proofs.lemmas.List.Sums.{prefix_len-le-length}
 use Rattle.gum_messages.specs.declared.member.Member.{Member}
 use Rattle.gum_messages.specs.Members.{inc_of, index_of}
@@ -29,3 +30,15 @@ pub index_of_none : (ms : List Member) (n : ℕ) → position (λ x. nat_eq x.no
 index_of_none ms n e =
     let within : index_of ms n ≤ length ms = prefix_len-le-length _ ms in
     grind arith
+
+-- a test that all members pass, each node that is a member passes
+pub all_members : (p : ℕ → Bool) (ms : List Member) (n : ℕ) → list_all (λ m. p m.node) ms ≡ true → 0 < inc_of ms n → p n ≡ true
+all_members p [] n e h = absurd (omega arith)
+all_members p (m ∷ ms) n e h =
+    elim (p m.node) as (λ (c : Bool). p m.node ≡ c → (c && list_all (λ x. p x.node) ms) ≡ true → p n ≡ true) [
+      | true ↦ λ first rest. elim (nat_eq m.node n) as (λ (b : Bool). nat_eq m.node n ≡ b → 0 < cond b m.inc (inc_of ms n) → p n ≡ true) [
+        | true ↦ λ same g. let here : m.node ≡ n = grind arith in subst (λ (k : ℕ). p k ≡ true) here first
+        | false ↦ λ other g. all_members p ms n rest g
+      ] refl h
+      | false ↦ λ first rest. cc
+    ] refl e

@@ -3,6 +3,8 @@
 
 mod member;
 mod members;
+#[cfg(test)]
+mod tests;
 mod view;
 
 pub use member::Member;

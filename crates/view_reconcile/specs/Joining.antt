@@ -29,6 +29,10 @@ is_ready s = elim s.stage [ stage.Ready ↦ true | stage.Open ↦ true | _ ↦ f
 abbrev pub is_open : ReconcileState → Bool
 is_open s = elim s.stage [ stage.Open ↦ true | _ ↦ false ]
 
+-- How many bytes of the locker's state it has, where it pulls.
+abbrev pub pulled_bytes : ReconcileState → Option ℕ
+pulled_bytes s = elim s.stage [ stage.Pulling got ↦ Some got | _ ↦ None ]
+
 -- This node is the locker of its view.
 abbrev pub locks : ReconcileState → Bool
 locks s = is_locker s.view.members s.node
@@ -99,14 +103,14 @@ piece_length total offset = if nat_le offset total then Some (min 4096 (total - 
 
 -- A Piece of `count` bytes counts at the offset that was asked for.
 abbrev pub pulled : ReconcileState → ℕ → ℕ → ℕ → ReconcileState × Step
-pulled s total offset count = elim s.stage [
-  | stage.Pulling got ↦
+pulled s total offset count = elim (pulled_bytes s) [
+  | None ↦ (s, step.Nothing)
+  | Some got ↦
       if nat_eq offset got
       then (if nat_lt (got + count) total
       then (record s { stage = stage.Pulling (got + count) }, step.Pull (got + count))
       else (record s { stage = stage.Taking }, step.Whole))
       else (s, step.Nothing)
-  | _ ↦ (s, step.Nothing)
 ]
 
 abbrev pub marked : ReconcileState → ℕ → ReconcileState
@@ -128,20 +132,20 @@ readied s from =
     else (marked s from, step.Nothing)))
     else (s, step.Nothing)
 
--- An OpenView.
+-- An OpenView at a node that is ready and not open.
 abbrev pub opened : ReconcileState → ReconcileState × Bool
-opened s = elim s.stage [
-  | stage.Ready ↦ (record s { stage = stage.Open }, true)
-  | _ ↦ (s, false)
-]
+opened s =
+    if is_ready s && not (is_open s)
+    then (record s { stage = stage.Open }, true)
+    else (s, false)
 
--- A tick: a locker offers again, a pulling member asks again, and a ready one says so again.
+-- A tick: a locker that isn't open offers to each member that isn't ready; a pulling member asks for the next piece;
+-- a ready member that isn't open says so.
 abbrev pub ticked : ReconcileState → Step
 ticked s =
     if locks s
     then (if nat_lt 0 (awaited s) then step.OfferTo (awaited s) else step.Nothing)
-    else elim s.stage [
-      | stage.Pulling got ↦ step.Pull got
-      | stage.Ready ↦ step.Ready
-      | _ ↦ step.Nothing
+    else elim (pulled_bytes s) [
+      | Some got ↦ step.Pull got
+      | None ↦ if is_ready s && not (is_open s) then step.Ready else step.Nothing
     ]

@@ -9,6 +9,10 @@ mod step;
 
 pub use chain::Chain;
 pub use chain_fault::ChainFault;
+
+#[cfg(test)]
+mod tests;
+
 pub use gum_messages::{Member, Members, View};
 pub use reconcile::Reconcile;
 pub use stage::Stage;

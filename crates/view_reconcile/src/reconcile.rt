@@ -143,7 +143,7 @@ impl Reconcile {
     pub fn open(&mut self) -> bool
         ensures { (self.new, result) ≡ opened self.old }
     {
-        if self.stage != Stage::Ready {
+        if !self.is_ready() || self.is_open() {
             return false;
         }
         self.stage = Stage::Open;
