@@ -1,6 +1,6 @@
 -- Global Update: what a node keeps of it, and what each event makes of it. Each rule gives what is kept afterwards and
 -- the decision. Vogels et al., FTCS 1998: the locker orders the updates, and the sender spreads each to the others.
-use Rattle.std.specs.Prelude.{◌≡◌, ◌≢◌, ℕ, ◌+◌, ◌<◌, ◌≤◌, Bool, true, false, ◌&&◌, List, [], ◌∷◌, ◌++◌, length, drop, replicate, All, Option, Some, None, is_none, unwrap_or, nat_eq, nat_lt, nat_le, if◌then◌else◌, slice_get, slice_set}
+use Rattle.std.specs.Prelude.{◌≡◌, ℕ, ◌+◌, ◌<◌, ◌≤◌, Bool, true, false, ◌&&◌, List, [], ◌∷◌, ◌++◌, length, drop, replicate, All, Option, Some, None, is_none, unwrap_or, nat_eq, nat_lt, nat_le, if◌then◌else◌, slice_get, slice_set}
 use Rattle.gum_messages.specs.declared.member.Member.{Member}
 use Rattle.gum_messages.specs.declared.view.View.{View}
 use Rattle.gum_messages.specs.Members.{index_of, is_locker, spread_of}
@@ -47,6 +47,10 @@ entered c v = record c { members = v.members; is_open = false; spreading = None;
 abbrev pub last_request : ℕ
 last_request = 9223372036854775807
 
+-- The request of the queue's head.
+abbrev pub head_request : CoreState → Option ℕ
+head_request c = if nat_lt 0 (length c.queue) then Some (c.passed + 1) else None
+
 -- An update is queued under the next request number; as the head of an open node it is asked for.
 abbrev pub first_ask : CoreState → Decision
 first_ask c = if c.is_open && nat_eq (length c.queue) 0 then Ask (c.passed + 1) else Nothing
@@ -77,12 +81,16 @@ opened c settled =
 abbrev pub last_place : ℕ
 last_place = 9223372036854775807
 
+-- A request may be logged once in a view, while there are places.
+abbrev pub may_log : CoreState → ℕ → ℕ → ℕ → Bool
+may_log c from req done = nat_lt (greatest_of c from) req && nat_lt done last_place
+
 -- An Ask at a locker that has applied `done` records.
 abbrev pub asked : CoreState → ℕ → ℕ → ℕ → Decision
 asked c from req done =
     if c.is_open && locks c
     then elim c.lock [
-      | None ↦ if nat_lt (greatest_of c from) req && nat_lt done last_place then Write from req else Nothing
+      | None ↦ if may_log c from req done then Write from req else Nothing
       | Some l ↦ if nat_eq l.node from && nat_eq l.req req then Grant from req l.place else Nothing
     ]
     else Nothing

@@ -3,7 +3,7 @@
 ghost use Rattle.std.specs.Prelude.{◌≡◌, ◌+◌, ◌-◌, ◌<◌, IfOk, IfSome, OnErr, OnOk, None, Some, length, map, nat_eq, option_copied, slice_get, slice_set, unwrap_or};
 ghost use Rattle.gum_messages.specs.Members.{inc_of, index_of};
 ghost use Rattle.update_records.specs.Validity.{IsValid};
-ghost use Rattle.gum_core.specs.Updating.{applied, applying, asked, asks_for, awaits, entered, finished, first_ask, fresh, granted, greatest_of, has_left, holder, is_held, last_request, locks, logged, opened, receiver, released, spread, submitted, ticked};
+ghost use Rattle.gum_core.specs.Updating.{applied, applying, asked, asks_for, awaits, entered, finished, first_ask, fresh, granted, greatest_of, has_left, head_request, holder, is_held, last_request, locks, logged, may_log, opened, receiver, released, spread, submitted, ticked};
 
 use crate::{Decision, Lock, Spreading};
 use gum_messages::{Members, View};
@@ -111,10 +111,7 @@ impl Core {
             return Decision::Nothing;
         }
         match self.lock {
-            None if self.greatest_of(from) < req && done < LAST_PLACE => Decision::Write {
-                from,
-                req,
-            },
+            None if self.may_log(from, req, done) => Decision::Write { from, req },
             Some(lock) if lock.node == from && lock.req == req => Decision::Grant {
                 to: from,
                 req,
@@ -235,6 +232,23 @@ impl Core {
     {
         self.queue.front()
     }
+
+    /// The request of that update.
+    pub fn head_request(&self) -> Option<u64>
+        ensures { result ≡ head_request self.now }
+    {
+        if self.queue.is_empty() {
+            return None;
+        }
+        Some(self.passed + 1)
+    }
+
+    /// How many requests were given in this incarnation.
+    pub fn requests(&self) -> u64
+        ensures { result ≡ self.now.passed + length self.now.queue }
+    {
+        self.passed + self.queue.len() as u64
+    }
 }
 
 /// The greatest place that a record may have.
@@ -258,6 +272,12 @@ impl Core {
         } else {
             Decision::Nothing
         }
+    }
+
+    fn may_log(&self, from: u16, req: u64, done: u64) -> bool
+        ensures { result ≡ may_log self.now from req done }
+    {
+        self.greatest_of(from) < req && done < LAST_PLACE
     }
 
     fn greatest_of(&self, node: u16) -> u64

@@ -5,6 +5,8 @@ mod decision;
 mod global_update;
 mod lock;
 mod spreading;
+#[cfg(test)]
+mod tests;
 
 pub use decision::Decision;
 pub use global_update::Core;
