@@ -2,9 +2,11 @@
 #![tactic(auto)]
 
 mod answering;
+mod laws;
 mod running;
 mod status;
 
+pub use laws::one_answer;
 pub use running::run;
 pub use status::Status;
 

@@ -3,9 +3,8 @@
 
 use clus_cli::{Status, run};
 use edge_io::{StdSink, StdSource};
-use std::env;
-use std::io;
 use std::process::ExitCode;
+use std::{env, io};
 
 fn main(rt: HostRuntime) -> ExitCode {
     let status = match command_words(&rt) {

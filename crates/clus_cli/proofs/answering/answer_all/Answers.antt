@@ -1,4 +1,4 @@
-use Rattle.std.proofs.Common.{ℕ, ◌-◌, List, length, drop, arith, length-drop}
+use Rattle.std.proofs.Common.{◌-◌, length, drop, arith, length-drop}
 use Rattle.std.proofs.lemmas.List.{length-take}
 use Rattle.clus_cli.proofs.Frames.{at_end, at_stop, goes_on}
 use Rattle.clus_cli.proofs.answering.answer_all.Goals as goal

@@ -1,4 +1,4 @@
-use Rattle.std.proofs.Common.{◌≡◌, ℕ, ◌-◌, ◌≤◌, length}
+use Rattle.std.proofs.Common.{◌-◌, ◌≤◌, length}
 use Rattle.clus_cli.proofs.Frames.{Completes}
 use Rattle.clus_cli.proofs.answering.answer_all.Given as goal
 
