@@ -1,5 +1,5 @@
 -- A change that is read is spelled so, and a change that is spelled so is read.
-use Rattle.std.proofs.Common.{◌≡◌, ℕ, zero, suc, ◌+◌, ◌-◌, ◌<◌, ◌≤◌, ◌^◌, Bool, true, false, cond, eqb, List, [], ◌∷◌, ◌++◌, length, Option, Some, None, Result, Ok, Err, refl, sym, ap, ◌∙◌, subst, append_assoc, length-append, get_or, take, All, arith}
+use Rattle.std.proofs.Common.{◌≡◌, ℕ, zero, suc, ◌+◌, ◌<◌, ◌≤◌, Bool, true, false, cond, eqb, List, [], ◌∷◌, ◌++◌, length, Result, Ok, refl, sym, ap, ◌∙◌, subst, append_assoc, length-append, get_or, take, All, arith}
 use Rattle.std.specs.List.{flat_map}
 use Rattle.std.proofs.lemmas.Bool.Decides.{nat_tests}
 use Rattle.std.proofs.lemmas.List.Concat.{flat_map-cons}
@@ -7,20 +7,18 @@ use Rattle.std.proofs.lemmas.List.Elements.{All-nil, All-cons, All-head, All-tai
 use Rattle.std.proofs.lemmas.List.{append-nil, take_more}
 use Rattle.std.proofs.lemmas.Grind.{flat_map-append}
 use Rattle.wire_fields.specs.declared.endian.Endian.TheVariants.{Little}
-use Rattle.wire_fields.specs.Numbers.{IsBytes, num}
+use Rattle.wire_fields.specs.Numbers.{num}
 use Rattle.wire_fields.specs.Reading.{Reading, number_at}
 use Rattle.wire_fields.proofs.NumberLaws.{length-num}
 use Rattle.wire_fields.proofs.FieldLaws.{at, Took, took_none, took_then}
 use Rattle.clus_names.specs.Parts.{text_of}
-use Rattle.clus_names.specs.Limits.{IsName, IsPath}
 use Rattle.update_records.specs.declared.change.Change.{Change}
 use Rattle.update_records.specs.declared.change.Change.TheVariants.{Create, SetValue, DeleteValue, DeleteKey}
 use Rattle.update_records.specs.Checked.{◌>>=◌, field_at, anything, between, each_at}
 use Rattle.update_records.specs.Spelling.{name_text, data_text, key_text, change_text}
-use Rattle.update_records.specs.Validity.{FitTogether}
 use Rattle.update_records.specs.Limits.{IsKey, IsChange}
 use Rattle.update_records.specs.Grammar.{path_at, name_at, data_at, room_below, create_at, set_value_at, delete_value_at, delete_key_at, rest_at, body_at, change_at}
-use Rattle.update_records.proofs.Fields.{bind_ok, ok_is, IsInput, input_behind, any_found, any_read, bounded_found, bounded_read, name_found, name_read, length-name_text, path_found, path_read, data_found, data_read, length-data_text, fits_room, room_fits, room_small, counted_parts, some_parts}
+use Rattle.update_records.proofs.Fields.{bind_ok, ok_is, IsInput, any_found, any_read, bounded_found, bounded_read, name_found, name_read, path_found, path_read, data_found, data_read, fits_room, room_fits, room_small, counted_parts, some_parts}
 
 -- ---- found
 

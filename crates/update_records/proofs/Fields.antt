@@ -1,7 +1,6 @@
 -- Fields that several kinds share: what is read is spelled so, and what is spelled so is read.
-use Rattle.std.proofs.Common.{◌≡◌, ℕ, zero, suc, ◌+◌, ◌-◌, ◌<◌, ◌≤◌, ◌^◌, Bool, true, false, cond, eqb, ltb, leb, List, [], ◌∷◌, ◌++◌, length, Option, Some, None, Result, Ok, Err, refl, sym, ap, ◌∙◌, subst, append_assoc, length-append, take, All, arith}
-use Rattle.std.specs.Prelude.{◌&&◌, is_none, nat_le, nat_lt}
-use Rattle.std.specs.List.{flat_map}
+use Rattle.std.proofs.Common.{◌≡◌, ℕ, ◌+◌, ◌-◌, ◌<◌, ◌≤◌, ◌^◌, Bool, true, false, cond, eqb, ltb, List, [], ◌∷◌, ◌++◌, length, Option, Some, None, Result, Ok, Err, refl, sym, ap, ◌∙◌, subst, append_assoc, length-append, take, All, arith}
+use Rattle.std.specs.Prelude.{◌&&◌, is_none}
 use Rattle.std.proofs.lemmas.Bool.{ltb-true, ltb-false, le-ltb}
 use Rattle.std.proofs.lemmas.Bool.Decides.{nat_tests}
 use Rattle.std.proofs.lemmas.List.Concat.{flat_map-cons}
@@ -15,9 +14,9 @@ use Rattle.wire_fields.specs.Numbers.{IsBytes, num}
 use Rattle.wire_fields.specs.Reading.{Reading, number_at, bytes_at, times}
 use Rattle.wire_fields.proofs.NumberLaws.{IsBytes-take, length-num}
 use Rattle.wire_fields.proofs.FieldLaws.{at, Took, took_then, number_found, number_read, bytes_found, bytes_read}
-use Rattle.wire_fields.proofs.ListLaws.{FoundBy, ReadBy, FoundList, list_found, list_read}
+use Rattle.wire_fields.proofs.ListLaws.{FoundBy, ReadBy, list_found, list_read}
 use Rattle.clus_names.specs.Parts.{text_of, parts_of, joined_text}
-use Rattle.clus_names.specs.Limits.{IsNameUnit, IsName, IsPartUnit, IsPart, IsPath, IsPathText, lacks_zero}
+use Rattle.clus_names.specs.Limits.{IsNameUnit, IsName, IsPart, IsPath, lacks_zero}
 use Rattle.clus_names.specs.Faults.{text_fault}
 use Rattle.clus_names.proofs.Texts.{path_text, text_passes, only_text, text_of-append}
 use Rattle.update_records.specs.Checked.{◌>>=◌, judged, field_at, anything, between}

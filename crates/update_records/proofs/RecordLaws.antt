@@ -1,5 +1,5 @@
 -- An update or a record that is read is spelled so, and one that is spelled so is read.
-use Rattle.std.proofs.Common.{◌≡◌, ℕ, zero, suc, ◌+◌, ◌-◌, ◌<◌, ◌≤◌, ◌^◌, Bool, true, false, cond, eqb, min, List, [], ◌∷◌, ◌++◌, length, Option, Some, None, Result, Ok, Err, refl, sym, ap, ◌∙◌, subst, append_assoc, length-append, All, arith}
+use Rattle.std.proofs.Common.{◌≡◌, ℕ, ◌+◌, ◌≤◌, Bool, true, false, cond, eqb, List, [], ◌++◌, length, Result, Ok, Err, refl, sym, ap, ◌∙◌, subst, append_assoc, length-append, arith}
 use Rattle.std.specs.List.{flat_map}
 use Rattle.std.proofs.lemmas.Bool.{eqb-true}
 use Rattle.std.proofs.lemmas.List.{append-nil, nil_from_length}
@@ -8,7 +8,7 @@ use Rattle.wire_fields.specs.declared.endian.Endian.TheVariants.{Little}
 use Rattle.wire_fields.specs.Numbers.{IsBytes, num}
 use Rattle.wire_fields.specs.Reading.{Reading, number_at}
 use Rattle.wire_fields.proofs.NumberLaws.{length-num}
-use Rattle.wire_fields.proofs.FieldLaws.{at, Took, took_none, took_then}
+use Rattle.wire_fields.proofs.FieldLaws.{at, Took, took_then}
 use Rattle.clus_names.specs.Parts.{text_of}
 use Rattle.update_records.specs.declared.change.Change.{Change}
 use Rattle.update_records.specs.declared.change.Change.TheVariants as change
@@ -16,7 +16,7 @@ use Rattle.update_records.specs.declared.update.Update.{Update}
 use Rattle.update_records.specs.declared.update.Update.TheVariants.{Create, SetValue, DeleteValue, DeleteKey, Batch}
 use Rattle.update_records.specs.Checked.{◌>>=◌, field_at, anything, between, each_at, no_end, alone}
 use Rattle.update_records.specs.Spelling.{change_text, update_text, single}
-use Rattle.update_records.specs.Validity.{IsValid, IsValidChange}
+use Rattle.update_records.specs.Validity.{IsValid}
 use Rattle.update_records.specs.Limits.{IsChange, IsUpdate}
 use Rattle.std.specs.Prelude.{IfOk}
 use Rattle.update_records.specs.declared.fault.RecordFault.{RecordFault}
@@ -24,8 +24,8 @@ use Rattle.update_records.specs.Outcomes.{Decodes}
 use Rattle.update_records.specs.declared.update_id.UpdateId.{UpdateId}
 use Rattle.update_records.specs.Entry.{Entry, IsPlaced, IsId, IsRecord, IsNoBatch, IsFirst, id_text, record_text, first_text}
 use Rattle.update_records.specs.Grammar.{body_at, change_at, batch_at, single_at, kind_at, update_at, batch_end, start, update_of, id_at, last_place, record_at, record_of, first_record_at, first_record_of}
-use Rattle.update_records.proofs.Fields.{bind_ok, ok_is, IsInput, input_behind, any_found, any_read, bounded_found, bounded_read, length-name_text, length-data_text}
-use Rattle.update_records.proofs.ChangeLaws.{FoundChange, body_found, change_found, FoundChanges, changes_found, body_text, kind_of, kinds, change_parts, length-change_text, length-body_text, length-value_text, body_read, change_read, changes_read}
+use Rattle.update_records.proofs.Fields.{bind_ok, ok_is, IsInput, any_found, any_read, bounded_found, bounded_read, length-name_text, length-data_text}
+use Rattle.update_records.proofs.ChangeLaws.{FoundChange, body_found, change_found, changes_found, body_text, kind_of, kinds, change_parts, length-change_text, length-body_text, length-value_text, body_read, change_read, changes_read}
 
 pub record FoundUpdate (s : Reading) (u : Update) (t : Reading) : Type 0 where
   pub took : Took s (update_text u) t

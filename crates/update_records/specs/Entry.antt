@@ -4,7 +4,7 @@ use Rattle.wire_fields.specs.declared.endian.Endian.TheVariants.{Little}
 use Rattle.wire_fields.specs.Numbers.{num}
 use Rattle.update_records.specs.declared.update_id.UpdateId.{UpdateId}
 use Rattle.update_records.specs.declared.update.Update.{Update}
-use Rattle.update_records.specs.declared.update.Update.TheVariants.{Batch, Create, SetValue, DeleteValue, DeleteKey}
+use Rattle.update_records.specs.declared.update.Update.TheVariants.{Batch}
 use Rattle.update_records.specs.Validity.{IsValid}
 use Rattle.update_records.specs.Spelling.{update_text}
 use Rattle.update_records.specs.Limits.{IsUpdate}

@@ -1,5 +1,5 @@
 -- Reading updates and records from left to right, with the place of the first field at fault.
-use Rattle.std.specs.Prelude.{◌≡◌, ℕ, ◌+◌, ◌-◌, ◌^◌, List, [], length, Bool, ◌&&◌, Option, Some, None, Result, Ok, Err, is_none, min, nat_lt, nat_le, ◌==◌, if◌then◌else◌}
+use Rattle.std.specs.Prelude.{ℕ, ◌+◌, ◌-◌, ◌^◌, List, length, Bool, ◌&&◌, Result, Ok, is_none, min, ◌==◌, if◌then◌else◌}
 use Rattle.wire_fields.specs.declared.endian.Endian.TheVariants.{Little}
 use Rattle.wire_fields.specs.Reading.{Reading, bytes_at, number_at, times}
 use Rattle.clus_names.specs.Parts.{parts_of, text_of}

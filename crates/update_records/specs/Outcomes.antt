@@ -1,5 +1,5 @@
 -- What a call of a reader gave, unless memory ran out.
-use Rattle.std.specs.Prelude.{◌≡◌, ℕ, List, ◌++◌, length, Bool, true, false, ◌==◌, Result, Ok, Err}
+use Rattle.std.specs.Prelude.{◌≡◌, ℕ, List, ◌++◌, length, true, false, ◌==◌, Result, Ok, Err}
 use Rattle.wire_fields.specs.declared.endian.Endian.TheVariants.{Little}
 use Rattle.wire_fields.specs.Reading.{Reading}
 use Rattle.wire_fields.specs.Written.{Written}

@@ -1,4 +1,3 @@
-use Rattle.std.proofs.Common.{◌≡◌}
 use Rattle.std.proofs.lemmas.Result.{err_from_is_err_and}
 use Rattle.update_records.specs.Checked.{each_at}
 use Rattle.update_records.specs.Grammar.{change_at}

@@ -1,4 +1,4 @@
-use Rattle.std.proofs.Common.{◌≡◌, ap, sym, ◌∙◌, subst, Ok, arith}
+use Rattle.std.proofs.Common.{ap, ◌∙◌, subst, arith}
 use Rattle.update_records.specs.Grammar.{update_of}
 use Rattle.update_records.specs.Outcomes.{Decodes}
 use Rattle.update_records.proofs.RecordLaws.{whole_update_read, update_is_found, update_is_valid}

@@ -1,4 +1,4 @@
-use Rattle.std.proofs.Common.{◌≡◌, sym, ◌+◌, ◌∷◌, [], length, length-append, arith}
+use Rattle.std.proofs.Common.{sym, ◌∷◌, [], length-append, arith}
 use Rattle.wire_fields.specs.Reading.{number_at, times}
 use Rattle.wire_fields.proofs.ListLaws.{goes_on, ends, is_done}
 use Rattle.update_records.proofs.Loops.{whole_cut, whole_read}
