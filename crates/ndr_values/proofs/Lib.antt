@@ -1,0 +1,4 @@
+pub mod Steps
+pub mod AlignedLaws
+pub mod ValueLaws
+pub mod StringLaws

@@ -1,0 +1,5 @@
+pub mod Aligned
+pub mod Reading
+pub mod Spelling
+pub mod Text
+pub mod Writing
