@@ -1,5 +1,5 @@
 -- Fields behind padding: what is read is spelled so, and what is spelled so is read.
-use Rattle.std.proofs.Common.{◌≡◌, ℕ, ◌+◌, ◌^◌, ◌<◌, List, ◌++◌, length, Option, Some, refl, sym, ap, ◌∙◌, subst, append_assoc, arith, length-append}
+use Rattle.std.proofs.Common.{◌≡◌, ℕ, ◌+◌, ◌^◌, ◌<◌, List, ◌++◌, length, Some, refl, ap, ◌∙◌, subst, append_assoc, arith, length-append}
 use Rattle.wire_fields.specs.declared.endian.Endian.{Endian}
 use Rattle.wire_fields.specs.Numbers.{IsBytes, num, uuid_text}
 use Rattle.wire_fields.specs.Reading.{Reading, ◌>>=◌, align_at, gap, number_at, uuid_at}
@@ -63,7 +63,7 @@ handle_found s sent t h e =
       took = took_then s padded.0.1 id.0.1 front.0 (num s.endian 4 attributes.0.0 ++ uuid_text s.endian id.0.0) front.1 ends;
       spelled = record { padding = front.0; aligned = front.2; attributes = middle.1; id = back.1; parts = refl };
     } in
-    subst (λ (x : WireHandle × Reading). TookHandle s x.0 x.1) (some_is _ _ id.2) whole
+    subst (λ (x : WireHandle × Reading). TookHandle s x.0 x.1) (some_is (made, id.0.1) (sent, t) id.2) whole
 
 pub handle_read : (e : Endian) (place : ℕ) (sent : WireHandle) (bytes rest : List ℕ) → SpellsHandle e place sent bytes
     → handle_at (at e place (bytes ++ rest)) ≡ Some (sent, at e (place + length bytes) rest)

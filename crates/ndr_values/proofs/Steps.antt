@@ -1,6 +1,5 @@
 -- Undoing a reading step by step, and what a call gave.
 use Rattle.std.proofs.Common.{◌≡◌, ℕ, ◌+◌, Bool, true, false, List, ◌++◌, length, Option, Some, None, Result, Ok, Err, IfOk, refl, subst}
-use Rattle.wire_fields.specs.declared.endian.Endian.{Endian}
 use Rattle.wire_fields.specs.Reading.{Reading}
 use Rattle.wire_fields.proofs.FieldLaws.{Took, at}
 use Rattle.ndr_values.specs.declared.fault.NdrFault.{NdrFault}

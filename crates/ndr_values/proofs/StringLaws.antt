@@ -1,5 +1,5 @@
 -- Strings: what is read is spelled so, and what is spelled so is read.
-use Rattle.std.proofs.Common.{◌≡◌, ℕ, ◌+◌, ◌^◌, ◌<◌, ◌≤◌, Bool, true, List, ◌++◌, length, Option, Some, Result, Ok, refl, sym, ap, ◌∙◌, subst, append_assoc, arith, lit<, length-append}
+use Rattle.std.proofs.Common.{◌≡◌, ℕ, ◌+◌, ◌^◌, ◌<◌, ◌≤◌, true, List, ◌++◌, length, Some, Ok, refl, ap, ◌∙◌, subst, append_assoc, arith, lit<, length-append}
 use Rattle.std.specs.Prelude.{◌==◌, nat_le}
 use Rattle.std.proofs.lemmas.Bool.{eqb-true, leb-true, le-leb}
 use Rattle.wire_fields.specs.declared.endian.Endian.{Endian}
@@ -8,10 +8,10 @@ use Rattle.wire_fields.specs.Numbers.{IsBytes, num}
 use Rattle.wire_fields.specs.Reading.{Reading, gap, number_at, times}
 use Rattle.wire_fields.proofs.NumberLaws.{length-num}
 use Rattle.wire_fields.proofs.FieldLaws.{Took, at, took_then, number_found, number_read}
-use Rattle.wire_fields.proofs.ListLaws.{FoundBy, ReadBy, FoundList, list_found, list_read}
+use Rattle.wire_fields.proofs.ListLaws.{FoundBy, ReadBy, list_found, list_read}
 use Rattle.ndr_values.specs.declared.fault.NdrFault.TheVariants.{BadOffset, BadCount, NoEnd}
 use Rattle.ndr_values.specs.Aligned.{aligned, word_at}
-use Rattle.ndr_values.specs.Reading.{◌>>=◌, field, check, number, actual_count, units, end_place, string}
+use Rattle.ndr_values.specs.Reading.{◌>>=◌, field, check, actual_count, units, end_place, string}
 use Rattle.ndr_values.specs.Spelling.{Text, IsUnit, SpellsText, Reads}
 use Rattle.ndr_values.specs.Text.{ends_in_zero, text_of}
 use Rattle.ndr_values.proofs.AlignedLaws.{number_took_in, word_read}
@@ -55,7 +55,7 @@ count_found s count t h e =
       within = leb-true _ _ within.0;
       took = three s m o actual.0.1 a.padding (num s.endian 4 max.0.0) (num s.endian 4 0) (num s.endian 4 actual.0.0) a.took b-zero c.0;
     } in
-    subst (λ (x : ℕ × Reading). TookCount s x.0 x.1) (ok_is _ _ within.1) whole
+    subst (λ (x : ℕ × Reading). TookCount s x.0 x.1) (ok_is (actual.0.0, actual.0.1) (count, t) within.1) whole
 
 unit_found : FoundBy (number_at 2) IsUnit
 unit_found s unit t h e =
@@ -98,7 +98,7 @@ string_reads s text t h e =
       parts = refl;
     } in
     let whole : Reads (Text (text_of sent.0.0)) s sent.0.1 = reads (Text (text_of sent.0.0)) s sent.0.1 (front.padding ++ (max ++ (zero ++ (count ++ back.text)))) took spelled in
-    subst (λ (x : List ℕ × Reading). Reads (Text x.0) s x.1) (ok_is _ _ ended.1) whole
+    subst (λ (x : List ℕ × Reading). Reads (Text x.0) s x.1) (ok_is (text_of sent.0.0, sent.0.1) (text, t) ended.1) whole
 
 string_again : (e : Endian) (place : ℕ) (text bytes rest : List ℕ) → SpellsText e place text bytes
     → string (at e place (bytes ++ rest)) ≡ Ok (text, at e (place + length bytes) rest)

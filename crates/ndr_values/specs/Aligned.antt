@@ -1,5 +1,5 @@
 -- One field at the next multiple of 4; none where too few bytes are left.
-use Rattle.std.specs.Prelude.{◌≡◌, ℕ, ◌+◌, List, Option, None, Some, Result, Ok, Err}
+use Rattle.std.specs.Prelude.{◌≡◌, ℕ, ◌+◌, Option, None, Some, Result, Ok, Err}
 use Rattle.wire_fields.specs.Reading.{Reading, ◌>>=◌, align_at, gap, number_at, uuid_at}
 use Rattle.ndr_values.specs.declared.handle.WireHandle.{WireHandle}
 

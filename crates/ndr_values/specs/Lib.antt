@@ -1,4 +1,5 @@
 pub mod Aligned
+pub mod Canonical
 pub mod Reading
 pub mod Spelling
 pub mod Text

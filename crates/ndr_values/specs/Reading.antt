@@ -1,5 +1,5 @@
 -- Reading the values of a stub in the order of the checks: the value, or the first fault with its place.
-use Rattle.std.specs.Prelude.{◌≡◌, ℕ, ◌-◌, ◌==◌, Bool, true, false, not, List, length, Option, Some, None, Result, Ok, Err, nat_le, if◌then◌else◌}
+use Rattle.std.specs.Prelude.{◌≡◌, ℕ, ◌+◌, ◌*◌, ◌^◌, ◌-◌, ◌==◌, Bool, true, false, not, List, length, Option, Some, None, Result, Ok, Err, nat_le, if◌then◌else◌}
 use Rattle.wire_fields.specs.Reading.{Reading, bytes_at, number_at, times}
 use Rattle.ndr_values.specs.declared.fault.NdrFault.{NdrFault}
 use Rattle.ndr_values.specs.declared.fault.NdrFault.TheVariants.{Short, BadOffset, BadCount, NoEnd}
@@ -35,6 +35,12 @@ pointer s = do
 
 abbrev pub handle : Reading → Result (WireHandle × Reading) NdrFault
 handle s = field (aligned s.place) (handle_at s)
+
+unfoldable pub time : Reading → Result (ℕ × Reading) NdrFault
+time s = do
+  low ← number s
+  high ← field low.1.place (number_at 4 low.1)
+  Ok (low.0 + 256 ^ 4 * high.0, high.1)
 
 unfoldable pub byte_array : Reading → Result (List ℕ × Reading) NdrFault
 byte_array s = do

@@ -1,6 +1,6 @@
 -- What bytes spell a value of a stub, in the transfer syntax NDR (C706, chapter 14).
 -- A value starts at a multiple of 4, counted from the stub's first byte; the padding before it is any bytes.
-use Rattle.std.specs.Prelude.{◌≡◌, ℕ, ◌+◌, ◌%◌, ◌/◌, ◌<◌, ◌≤◌, ◌^◌, ◌==◌, Bool, not, List, [], ◌∷◌, ◌++◌, length, replicate, IsTrue}
+use Rattle.std.specs.Prelude.{◌≡◌, ℕ, ◌+◌, ◌*◌, ◌%◌, ◌/◌, ◌<◌, ◌≤◌, ◌^◌, ◌==◌, Bool, not, List, ◌++◌, length, replicate, IsTrue}
 use Rattle.std.specs.List.{flat_map}
 use Rattle.wire_fields.specs.declared.endian.Endian.{Endian}
 use Rattle.wire_fields.specs.Lists.{IsList}
@@ -18,7 +18,6 @@ pub data Value : Type 0 where
   Handle : (handle : WireHandle) → Value
   -- a number of 4 bytes
   Number : (number : ℕ) → Value
-  -- a number of 8 bytes, sent as two
   Time : (time : ℕ) → Value
 
 -- A unit of a string.
@@ -66,12 +65,16 @@ pub record SpellsHandle (e : Endian) (place : ℕ) (handle : WireHandle) (bytes 
   pub id : length handle.id ≡ 16
   pub parts : bytes ≡ padding ++ (num e 4 handle.attributes ++ uuid_text e handle.id)
 
--- A time: its low 4 bytes as one number, then its high 4 bytes as another, in either byte order.
+-- A time of 8 bytes: its low 4 bytes as one number, then its high 4 bytes as another, in either byte order.
 pub record SpellsTime (e : Endian) (place time : ℕ) (bytes : List ℕ) : Type 0 where
   pub padding : List ℕ
+  pub low : ℕ
+  pub high : ℕ
   pub aligned : length padding ≡ gap 4 place
-  pub fits : time < 256 ^ 8
-  pub parts : bytes ≡ padding ++ (num e 4 (time % 256 ^ 4) ++ num e 4 (time / 256 ^ 4))
+  pub low_fits : low < 256 ^ 4
+  pub high_fits : high < 256 ^ 4
+  pub time_is : time ≡ low + 256 ^ 4 * high
+  pub parts : bytes ≡ padding ++ (num e 4 low ++ num e 4 high)
 
 -- The bytes, which start at the place, spell the value in the byte order.
 abbrev pub Spells : Endian → ℕ → Value → List ℕ → Type 0
@@ -111,3 +114,6 @@ canonical_number e place number = zeros place ++ num e 4 number
 
 abbrev pub canonical_handle : Endian → ℕ → WireHandle → List ℕ
 canonical_handle e place handle = zeros place ++ num e 4 handle.attributes ++ uuid_text e handle.id
+
+abbrev pub canonical_time : Endian → ℕ → ℕ → List ℕ
+canonical_time e place time = zeros place ++ num e 4 (time % 256 ^ 4) ++ num e 4 (time / 256 ^ 4)

@@ -7,6 +7,7 @@
 
 mod fault;
 mod handle;
+mod laws;
 mod reading;
 #[cfg(test)]
 mod tests;
@@ -15,6 +16,9 @@ mod writing;
 
 pub use fault::{NdrFault, ReadFault};
 pub use handle::WireHandle;
-pub use reading::{read_bytes, read_handle, read_number, read_pointer};
+pub use laws::canonical_is_read;
+pub use reading::{read_bytes, read_handle, read_number, read_pointer, read_time};
 pub use text::read_string;
-pub use writing::{write_bytes, write_handle, write_number, write_pointer, write_string};
+pub use writing::{
+    write_bytes, write_handle, write_number, write_pointer, write_string, write_time,
+};

@@ -4,8 +4,8 @@ ghost use Rattle.std.specs.Prelude.{◌≡◌, ℕ, Bool, List, IfErr, IfOk, Ok}
 ghost use Rattle.wire_fields.specs.Reading.{Reading};
 ghost use Rattle.wire_fields.specs.Numbers.{IsBytes};
 ghost use Rattle.ndr_values.specs.Aligned.{GivesField, aligned, handle_at, word_at};
-ghost use Rattle.ndr_values.specs.Reading.{IsFault, Takes, TakesIn, byte_array, handle, number, pointer};
-ghost use Rattle.ndr_values.specs.Spelling.{Reads, Bytes, Handle, Number, Pointer};
+ghost use Rattle.ndr_values.specs.Reading.{IsFault, Takes, TakesIn, byte_array, handle, number, pointer, time};
+ghost use Rattle.ndr_values.specs.Spelling.{Reads, Bytes, Handle, Number, Pointer, Time};
 ghost use Rattle.ndr_values.specs.declared.handle.WireHandle.{WireHandle as handles};
 
 use crate::fault::{NdrFault, ReadFault};
@@ -20,6 +20,15 @@ pub fn read_number(from: &mut Fields<'_>) -> Result<u32, NdrFault>
     ensures fault { IfErr result (λ fault. number from.old ≡ Err fault) }
 {
     word(from)
+}
+
+/// A time: 8 bytes, sent as two numbers. No memory.
+pub fn read_time(from: &mut Fields<'_>) -> Result<u64, NdrFault>
+    ensures found { IfOk result (λ value. Reads (Time value) from.old from.new) }
+    ensures only { (value : ℕ) (now : Reading) → Reads (Time value) from.old now → Takes (λ x. x) result (Ok (value, now)) from.new }
+    ensures fault { IfErr result (λ fault. time from.old ≡ Err fault) }
+{
+    low_and_high(from)
 }
 
 /// Whether the pointer isn't null. Its target follows directly. No memory.
@@ -63,6 +72,17 @@ fn aligned_word(from: &mut Fields<'_>) -> Result<u32, Short>
 {
     from.align(4)?;
     from.u32()
+}
+
+#[tactic(auto, unfolding(crate::specs::Reading::time))]
+fn low_and_high(from: &mut Fields<'_>) -> Result<u64, NdrFault>
+    ensures read { Takes (λ x. x) result (time from.old) from.new }
+    ensures bytes { IsBytes from.old.left }
+{
+    let low = word(from)?;
+    let place = from.place();
+    let high = from.u32().map_err(|_| NdrFault::Short { place })?;
+    Ok(u64::from(low) + 0x1_0000_0000 * u64::from(high))
 }
 
 #[tactic(auto, unfolding(crate::specs::Reading::pointer))]

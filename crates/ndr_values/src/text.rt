@@ -87,9 +87,8 @@ fn before_end(sent: Vec<u16>) -> Vec<u16>
     ensures { result.items ≡ text_of sent.items }
 {
     let mut text = sent;
-    match first_zero(&text) {
-        Some(end) => text.truncate(end),
-        None => {}
+    if let Some(end) = first_zero(&text) {
+        text.truncate(end);
     }
     text
 }

@@ -4,7 +4,7 @@ ghost use Rattle.std.specs.Prelude.{◌≡◌, ◌≢◌, ◌<◌, ◌^◌, ◌+
 ghost use Rattle.std.specs.List.{flat_map};
 ghost use Rattle.wire_fields.specs.Numbers.{num};
 ghost use Rattle.wire_fields.specs.Written.{Adds};
-ghost use Rattle.ndr_values.specs.Spelling.{canonical_bytes, canonical_counts, canonical_handle, canonical_number, canonical_text};
+ghost use Rattle.ndr_values.specs.Spelling.{canonical_bytes, canonical_counts, canonical_handle, canonical_number, canonical_text, canonical_time};
 ghost use Rattle.ndr_values.specs.Writing.{Appends};
 
 use crate::handle::WireHandle;
@@ -17,6 +17,15 @@ pub fn write_number(into: &mut Put, number: u32) -> Result<(), AllocError>
 {
     let start = into.len();
     let written = put_number(into, number);
+    whole_or_nothing(into, start, written)
+}
+
+/// A time: 8 bytes, sent as two numbers.
+pub fn write_time(into: &mut Put, time: u64) -> Result<(), AllocError>
+    ensures { Adds result into.old into.new (canonical_time into.old.endian (length into.old.bytes) time) }
+{
+    let start = into.len();
+    let written = put_time(into, time);
     whole_or_nothing(into, start, written)
 }
 
@@ -78,6 +87,13 @@ fn put_number(into: &mut Put, number: u32) -> Result<(), AllocError>
 {
     into.align(4)?;
     into.u32(number)
+}
+
+fn put_time(into: &mut Put, time: u64) -> Result<(), AllocError>
+    ensures { Appends result into.old into.new (canonical_time into.old.endian (length into.old.bytes) time) }
+{
+    put_number(into, (time % 0x1_0000_0000) as u32)?;
+    into.u32((time / 0x1_0000_0000) as u32)
 }
 
 fn put_handle(into: &mut Put, handle: &WireHandle) -> Result<(), AllocError>

@@ -1,4 +1,4 @@
-use Rattle.std.proofs.Common.{subst, sym}
+use Rattle.std.proofs.Common.{subst}
 use Rattle.ndr_values.specs.Reading.{TakesIn, byte_array}
 use Rattle.ndr_values.specs.Spelling.{Reads, Bytes}
 use Rattle.ndr_values.proofs.Steps.{found_in}

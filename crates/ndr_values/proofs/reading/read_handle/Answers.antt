@@ -1,4 +1,4 @@
-use Rattle.std.proofs.Common.{subst, sym}
+use Rattle.std.proofs.Common.{subst}
 use Rattle.ndr_values.specs.Reading.{Takes, handle}
 use Rattle.ndr_values.specs.Spelling.{Reads, Handle}
 use Rattle.ndr_values.proofs.Steps.{found}

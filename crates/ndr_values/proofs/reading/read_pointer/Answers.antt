@@ -1,4 +1,4 @@
-use Rattle.std.proofs.Common.{subst, sym}
+use Rattle.std.proofs.Common.{subst}
 use Rattle.ndr_values.specs.Reading.{Takes, pointer}
 use Rattle.ndr_values.specs.Spelling.{Reads, Pointer}
 use Rattle.ndr_values.proofs.Steps.{found}

@@ -1,7 +1,6 @@
 use Rattle.std.proofs.Common.{refl}
 use Rattle.wire_fields.specs.Reading.{number_at, times}
 use Rattle.wire_fields.proofs.ListLaws.{goes_on, ends, is_done}
-use Rattle.ndr_values.specs.Reading.{field}
 use Rattle.ndr_values.proofs.text.sent_units.Goals as goal
 
 pub returns-in-Err : goal.returns-in-Err

@@ -1,7 +1,6 @@
 use Rattle.std.proofs.Common.{◌≡◌, ◌++◌, take}
 use Rattle.std.specs.List.{flat_map}
 use Rattle.wire_fields.specs.Numbers.{num}
-use Rattle.wire_fields.specs.Written.{Written}
 use Rattle.ndr_values.proofs.writing.put_units.Given as goal
 
 abbrev pub invariant-loop-unit : goal.invariant-loop-unit
