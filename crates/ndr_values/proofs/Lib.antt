@@ -1,0 +1,5 @@
+pub mod Steps
+pub mod AlignedLaws
+pub mod ValueLaws
+pub mod StringLaws
+pub mod CanonicalLaws
