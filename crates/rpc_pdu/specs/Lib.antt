@@ -1,0 +1,6 @@
+pub mod Encoding
+pub mod Flags
+pub mod Header
+pub mod PduTypes
+pub mod Reading
+pub mod Writing

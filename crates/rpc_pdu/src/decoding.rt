@@ -1,0 +1,27 @@
+//! A fragment's bytes as a PDU.
+
+ghost use Rattle.std.specs.Prelude.{◌≡◌};
+ghost use Rattle.rpc_pdu.specs.Reading.{Decodes, pdu_at};
+
+use crate::bodies::body;
+use crate::header::{HEADER_LENGTH, header};
+use crate::pdu::Pdu;
+use crate::pdu_fault::PduFault;
+use std::alloc::Global;
+use wire_fields::Fields;
+
+/// The PDU that the bytes of one whole fragment are.
+pub fn decode(alloc: Global, bytes: &[u8]) -> Result<Pdu, PduFault>
+    ensures exact { Decodes result (pdu_at bytes.now) }
+{
+    read(alloc, bytes)
+}
+
+#[tactic(auto, unfolding(crate::specs::Reading::pdu_at))]
+fn read(alloc: Global, bytes: &[u8]) -> Result<Pdu, PduFault>
+    ensures { Decodes result (pdu_at bytes.now) }
+{
+    let (kind, head) = header(bytes)?;
+    let mut fields = Fields::new(&bytes[HEADER_LENGTH..], head.endian);
+    body(alloc, kind, head, &mut fields)
+}
