@@ -1,0 +1,19 @@
+//! The byte stream of a connection as items: whole calls, joined from their fragments, and the
+//! PDUs beside them (C706 chapter 12); and a reply cut into fragments.
+#![tactic(auto)]
+
+mod call;
+mod feed_fault;
+mod fragments;
+mod intake;
+mod intake_fault;
+mod item;
+mod side;
+mod turn;
+
+pub use call::Call;
+pub use feed_fault::FeedFault;
+pub use intake::Intake;
+pub use intake_fault::IntakeFault;
+pub use item::Item;
+pub use side::Side;
