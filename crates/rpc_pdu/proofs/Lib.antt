@@ -1,1 +1,6 @@
+pub mod BodyLaws
+pub mod HeaderLaws
 pub mod Loops
+pub mod PartLaws
+pub mod PduLaws
+pub mod Steps

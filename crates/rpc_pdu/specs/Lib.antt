@@ -1,5 +1,6 @@
 pub mod Encoding
 pub mod Flags
+pub mod Grammar
 pub mod Header
 pub mod PduTypes
 pub mod Reading

@@ -1,6 +1,8 @@
 //! A fragment's bytes as a PDU.
 
-ghost use Rattle.std.specs.Prelude.{◌≡◌};
+ghost use Rattle.std.specs.Prelude.{IfErr, IfOk, Ok};
+ghost use Rattle.rpc_pdu.specs.declared.pdu.Pdu.{Pdu};
+ghost use Rattle.rpc_pdu.specs.Grammar.{IsPdu, MayFail};
 ghost use Rattle.rpc_pdu.specs.Reading.{Decodes, pdu_at};
 
 use crate::bodies::body;
@@ -12,7 +14,10 @@ use wire_fields::Fields;
 
 /// The PDU that the bytes of one whole fragment are.
 pub fn decode(alloc: Global, bytes: &[u8]) -> Result<Pdu, PduFault>
-    ensures exact { Decodes result (pdu_at bytes.now) }
+    ensures found { IfOk result (λ pdu. IsPdu bytes.now pdu) }
+    // What is spelled so is read, unless memory runs out.
+    ensures only { (pdu : Pdu) → IsPdu bytes.now pdu → Decodes result (Ok pdu) }
+    ensures fault { IfErr result (λ fault. MayFail bytes.now fault) }
 {
     read(alloc, bytes)
 }
