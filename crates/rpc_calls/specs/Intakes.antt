@@ -35,16 +35,18 @@ most_unprocessed = 262144
 abbrev pub stream_length : Kept → ℕ
 stream_length kept = kept.place + length kept.rest
 
-abbrev pub FaultStands : Side → ℕ → Option Call → List ℕ → Option IntakeFault → Type 0
-FaultStands side place left rest None = Unit {0}
-FaultStands side place left rest (Some fault) = FaultAt side place left rest fault
+-- The fault is the stream's, and both numbers tell where it stands.
+abbrev pub FaultStands : Kept → Option IntakeFault → Type 0
+FaultStands kept None = Unit {0}
+FaultStands kept (Some fault) =
+    FaultAt kept.side kept.place kept.left kept.rest fault × (kept.unprocessed ≡ length kept.rest) × (kept.unfinished ≡ stub_length kept.left)
 
 -- The intake was fed this stream, and has given these items.
 pub record Holds (kept : Kept) (stream : List ℕ) (given : List Item) : Type 0 where
   pub frames : List (List ℕ)
   pub reads : Reads kept.side stream frames given kept.left kept.rest
   pub place : kept.place ≡ length (concat frames)
-  pub faulty : FaultStands kept.side kept.place kept.left kept.rest kept.fault
+  pub faulty : FaultStands kept kept.fault
 
 -- A fault of the stream, which stands whatever comes: memory that ran out is none.
 abbrev pub IsLasting : IntakeFault → Type 0

@@ -1,0 +1,4 @@
+pub mod Assembling
+pub mod FrameRuns
+pub mod HoldingLaws
+pub mod NextLaws
