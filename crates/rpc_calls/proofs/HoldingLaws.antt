@@ -9,7 +9,7 @@ use Rattle.rpc_calls.specs.declared.intake_fault.IntakeFault.TheVariants as faul
 use Rattle.rpc_calls.specs.declared.item.Item.{Item}
 use Rattle.rpc_calls.specs.declared.side.Side.{Side}
 use Rattle.rpc_calls.specs.Frames.{TooShort}
-use Rattle.rpc_calls.specs.Intakes.{FaultStands, FeedIs, Holds, Kept, fed, fresh}
+use Rattle.rpc_calls.specs.Intakes.{FaultStands, FeedIs, Holds, Kept, fed, fresh, stream_length}
 use Rattle.rpc_calls.specs.Streams.{FaultAt, Reads, Runs}
 use Rattle.rpc_calls.proofs.FrameRuns.{TooShort-append}
 
@@ -42,3 +42,8 @@ pub fed_holds : {X : Type 0} (result : Result X FeedFault) (old new : Kept) (pie
     → OnOk result ((stream : List ℕ) (given : List Item) → Holds old stream given → Holds new (stream ++ piece) given)
 fed_holds (Ok x) old new piece (fits, is) = λ stream given holds. subst (λ (k : Kept). Holds k (stream ++ piece) given) (sym is) (holds_fed old stream piece given holds)
 fed_holds (Err fault) old new piece is = tt
+
+-- ---- how long the stream is
+
+pub length_known : (kept : Kept) (stream : List ℕ) (given : List Item) → Holds kept stream given → stream_length kept ≡ length stream
+length_known kept stream given holds = omega (arith, holds.place, ap length holds.reads.whole, length-append (concat holds.frames) kept.rest)

@@ -11,7 +11,7 @@ use Rattle.rpc_calls.specs.declared.item.Item.{Item}
 use Rattle.rpc_calls.specs.declared.side.Side.{Side}
 use Rattle.rpc_calls.specs.Assembly.{goes_on, stub_length, taken}
 use Rattle.rpc_calls.specs.Frames.{IsFrame, Waits}
-use Rattle.rpc_calls.specs.Intakes.{AtEnd, BehindItem, FaultStands, Holds, IsLasting, Kept, LastsIfAny, NextIs, NumbersAre, Stays, no_fault}
+use Rattle.rpc_calls.specs.Intakes.{AtEnd, BehindItem, FaultStands, Holds, IsLasting, Kept, LastsIfAny, NextIs, NoMemoryInside, NumbersAre, Stays, no_fault}
 use Rattle.rpc_calls.specs.Parts.{IsPart}
 use Rattle.rpc_calls.specs.Streams.{FaultAt, Items, Leave, Reads, Runs, StopsBy, put}
 use Rattle.rpc_calls.specs.Turns.{Goes, MayStand, refused, reported}
@@ -223,3 +223,26 @@ refused_ends first old (faults.StubTooLong place) gone stands = keeping_ends fir
 pub ends_with_fault : (first old new : Kept) (fault : IntakeFault) → GoneOn first old → MayStand old fault × (new ≡ refused old fault) → Ends (given_fault fault) first new
 ends_with_fault first old new fault gone (stands, is) =
     subst (λ (kept : Kept). Ends (given_fault fault) first kept) (sym is) (refused_ends first old fault gone stands)
+
+-- ---- memory
+
+lasting_is_plain : (fault : IntakeFault) → IsLasting fault → NoMemoryInside fault
+lasting_is_plain (faults.Pdu place pdu_faults.BadVersion) lasts = tt
+lasting_is_plain (faults.Pdu place pdu_faults.BadType) lasts = tt
+lasting_is_plain (faults.Pdu place pdu_faults.BadRep) lasts = tt
+lasting_is_plain (faults.Pdu place pdu_faults.BadLength) lasts = tt
+lasting_is_plain (faults.Pdu place pdu_faults.HasAuth) lasts = tt
+lasting_is_plain (faults.Pdu place pdu_faults.BadFlags) lasts = tt
+lasting_is_plain (faults.Pdu place pdu_faults.Memory) lasts = lasts
+lasting_is_plain (faults.Interleaved place) lasts = tt
+lasting_is_plain (faults.StubTooLong place) lasts = tt
+lasting_is_plain faults.Memory lasts = tt
+
+pub kept_is_plain : (kept : Option IntakeFault) (fault : IntakeFault) → kept ≡ Some fault → LastsIfAny kept → NoMemoryInside fault
+kept_is_plain kept fault is lasts = lasting_is_plain fault (subst LastsIfAny is lasts)
+
+pub standing_is_plain : (kept : Kept) (fault : IntakeFault) → MayStand kept fault → NoMemoryInside fault
+standing_is_plain kept faults.Memory stands = tt
+standing_is_plain kept (faults.Pdu place inner) stands = lasting_is_plain (faults.Pdu place inner) stands.0
+standing_is_plain kept (faults.Interleaved place) stands = tt
+standing_is_plain kept (faults.StubTooLong place) stands = tt

@@ -85,6 +85,11 @@ FeedIs (Err feeds.Memory) old new piece = (old.unprocessed + length piece ≤ mo
 
 -- ---- next
 
+-- The fault of a PDU isn't that memory ran out: that is a fault of its own.
+abbrev pub NoMemoryInside : IntakeFault → Type 0
+NoMemoryInside (faults.Pdu place pdu_faults.Memory) = ⊥
+NoMemoryInside fault = Unit {0}
+
 abbrev pub Gives : Result (Option Item) IntakeFault → Kept → List ℕ → List Item → Type 0
 Gives (Ok (Some item)) new stream given = Holds new stream (given ++ item ∷ [])
 Gives (Ok None) new stream given = Holds new stream given × Items new.side stream given no_fault

@@ -1,6 +1,7 @@
 pub mod Assembly
-pub mod Frames
+pub mod Cutting
 pub mod Fragments
+pub mod Frames
 pub mod Intakes
 pub mod Parts
 pub mod Steps

@@ -1,6 +1,5 @@
 -- What one turn of `next` does to an intake.
 use Rattle.std.specs.Prelude.{◌≡◌, ◌⊎◌, ℕ, ◌+◌, List, ◌++◌, length, Option, Some, None, Result, Ok, Err}
-use Rattle.rpc_pdu.specs.declared.pdu_fault.PduFault.TheVariants as pdu_faults
 use Rattle.rpc_calls.specs.declared.intake_fault.IntakeFault.{IntakeFault}
 use Rattle.rpc_calls.specs.declared.intake_fault.IntakeFault.TheVariants as faults
 use Rattle.rpc_calls.specs.declared.item.Item.{Item}
@@ -36,10 +35,6 @@ refused kept fault = record {
   unprocessed = length kept.rest;
   unfinished = stub_length kept.left;
 }
-
-abbrev pub MayRefuse : IntakeFault → Type 0
-MayRefuse (faults.Pdu place pdu_faults.Memory) = ⊥
-MayRefuse fault = Unit {0}
 
 -- One frame was taken.
 pub record Goes (old new : Kept) (item : Option Item) : Type 0 where

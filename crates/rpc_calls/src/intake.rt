@@ -1,10 +1,10 @@
 //! The receiving end of a connection.
 
-ghost use Rattle.std.specs.Prelude.{◌≡◌, ◌+◌, ◌<◌, ◌≤◌, ◌^◌, List, [], ℕ, length, OnOk, ◌++◌};
+ghost use Rattle.std.specs.Prelude.{◌≡◌, ◌+◌, ◌<◌, ◌≤◌, ◌^◌, List, [], ℕ, length, IfErr, OnOk, ◌++◌};
 ghost use Rattle.rpc_calls.specs.declared.item.Item.{Item};
 ghost use Rattle.rpc_calls.specs.Assembly.{most_stub, stub_length};
-ghost use Rattle.rpc_calls.specs.Intakes.{FeedIs, Holds, NextIs, NumbersAre, Stays, fresh, most_unprocessed, stream_length};
-ghost use Rattle.rpc_calls.specs.Turns.{MayRefuse, TurnIs, refused, reported};
+ghost use Rattle.rpc_calls.specs.Intakes.{FeedIs, Holds, NextIs, NoMemoryInside, NumbersAre, Stays, fresh, most_unprocessed, stream_length};
+ghost use Rattle.rpc_calls.specs.Turns.{TurnIs, refused, reported};
 
 use crate::call::Call;
 use crate::feed_fault::FeedFault;
@@ -94,6 +94,7 @@ impl Intake {
     /// The next item of the stream; `None` where it isn't whole yet.
     pub fn next(&mut self) -> Result<Option<Item>, IntakeFault>
         ensures gives { NextIs result self.old self.new }
+        ensures inside { IfErr result (λ fault. NoMemoryInside fault) }
         ensures numbers { NumbersAre result self.old self.new }
         ensures stays { Stays self.old self.new }
     {
@@ -177,7 +178,7 @@ impl Intake {
 
     /// Keeps a fault of the stream.
     fn refuse(&mut self, fault: IntakeFault)
-        requires { MayRefuse fault }
+        requires { NoMemoryInside fault }
         ensures { self.new ≡ refused self.old fault }
     {
         match fault {

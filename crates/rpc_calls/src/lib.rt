@@ -8,6 +8,8 @@ mod fragments;
 mod intake;
 mod intake_fault;
 mod item;
+mod laws;
+mod replies;
 mod side;
 mod turn;
 
@@ -16,4 +18,6 @@ pub use feed_fault::FeedFault;
 pub use intake::Intake;
 pub use intake_fault::IntakeFault;
 pub use item::Item;
+pub use laws::{given_are_first, items_are_one, length_is_known};
+pub use replies::cut_reply;
 pub use side::Side;

@@ -2,7 +2,7 @@ use Rattle.std.proofs.Common.{◌≡◌, ap}
 use Rattle.std.specs.Prelude.{Option}
 use Rattle.rpc_calls.specs.Intakes.{Kept, LastsIfAny}
 use Rattle.rpc_calls.specs.contracts.intake.Intake.{the_view}
-use Rattle.rpc_calls.proofs.NextLaws.{ends_waiting, ends_with_fault, ends_with_item, gives_again, goes_on_turning}
+use Rattle.rpc_calls.proofs.NextLaws.{ends_waiting, ends_with_fault, ends_with_item, gives_again, goes_on_turning, kept_is_plain, standing_is_plain}
 use Rattle.rpc_calls.proofs.intake.Intake.next.Goals as goal
 
 pub returns-in-Some-clause-gives : goal.returns-in-Some-clause-gives
@@ -41,3 +41,9 @@ returns-in-Err-clause-gives c = (ends_with_fault c.args.self.now c.frames.self c
 
 pub returns-in-Err-clause-numbers : goal.returns-in-Err-clause-numbers
 returns-in-Err-clause-numbers c = (ends_with_fault c.args.self.now c.frames.self c.turn.new.self c.in-Err.fault c.frames.invariant c.in-Err.ensures).numbers
+
+pub returns-in-Some-clause-inside : goal.returns-in-Some-clause-inside
+returns-in-Some-clause-inside c = kept_is_plain c.self.inside.fault c.in-Some.fault c.in-Some.is c.self.invariant.5
+
+pub returns-in-Err-clause-inside : goal.returns-in-Err-clause-inside
+returns-in-Err-clause-inside c = standing_is_plain c.frames.self c.in-Err.fault c.in-Err.ensures.0
