@@ -78,7 +78,7 @@ header_found bytes kind passed known =
     }
 
 pub order_is : (bytes : List ℕ) (kind : PduType) (head : Head) → IsHeader bytes kind head → order_of bytes ≡ head.endian
-order_is bytes kind head is = ap order_with is.order ∙ order_of_mark head.endian
+order_is bytes _ head is = ap order_with is.order ∙ order_of_mark head.endian
 
 -- The header of a PDU passes.
 pub header_passes : (bytes : List ℕ) (kind : PduType) (head : Head) → IsHeader bytes kind head → header_fault bytes ≡ None

@@ -1,4 +1,6 @@
+pub mod Answered
 pub mod BodyLaws
+pub mod EncodingLaws
 pub mod HeaderLaws
 pub mod Loops
 pub mod PartLaws

@@ -51,26 +51,26 @@ IsUuid e id text = (text ≡ uuid_text e id) × (length id ≡ 16)
 abbrev pub IsCounted : {A : Type 0} → (Endian → A → List ℕ → Type 0) → ℕ → Endian → List A → List ℕ → Type 0
 IsCounted is count e xs text = (length xs ≡ count) × IsList (is e) xs text
 
-pub number_then : {A Goal : Type 0} (w : ℕ) (e : Endian) (s : Reading) (next : ℕ × Reading → Option A) (y : A) → s.endian ≡ e → IsBytes s.left → (number_at w s >>= next) ≡ Some y 
+pub number_then : {A Goal : Type 0} (w : ℕ) (e : Endian) (s : Reading) (next : ℕ × Reading → Option A) (y : A) → s.endian ≡ e → IsBytes s.left → (number_at w s >>= next) ≡ Some y
     → (Step (IsNumber w) e s next y → Goal) → Goal
 number_then w e s next y order bytes goes then =
     let found : FoundBy (number_at w) (IsNumber w) = λ s n t h e. let f = number_found w s n t h e in (num s.endian w n, f.0, (refl, f.1)) in
     then (step (number_at w) (IsNumber w) found e s next y order bytes goes)
 
-pub bytes_then : {A Goal : Type 0} (n : ℕ) (e : Endian) (s : Reading) (next : List ℕ × Reading → Option A) (y : A) → s.endian ≡ e → IsBytes s.left → (bytes_at n s >>= next) ≡ Some y 
+pub bytes_then : {A Goal : Type 0} (n : ℕ) (e : Endian) (s : Reading) (next : List ℕ × Reading → Option A) (y : A) → s.endian ≡ e → IsBytes s.left → (bytes_at n s >>= next) ≡ Some y
     → (Step (IsRun n) e s next y → Goal) → Goal
 bytes_then n e s next y order bytes goes then =
     let found : FoundBy (bytes_at n) (IsRun n) = λ s xs t h e. let f = bytes_found n s xs t h e in (xs, f.0, (refl, f.1)) in
     then (step (bytes_at n) (IsRun n) found e s next y order bytes goes)
 
-pub uuid_then : {A Goal : Type 0} (e : Endian) (s : Reading) (next : List ℕ × Reading → Option A) (y : A) → s.endian ≡ e → IsBytes s.left → (uuid_at s >>= next) ≡ Some y 
+pub uuid_then : {A Goal : Type 0} (e : Endian) (s : Reading) (next : List ℕ × Reading → Option A) (y : A) → s.endian ≡ e → IsBytes s.left → (uuid_at s >>= next) ≡ Some y
     → (Step IsUuid e s next y → Goal) → Goal
 uuid_then e s next y order bytes goes then =
     let found : FoundBy uuid_at IsUuid = λ s id t h e. let f = uuid_found s id t h e in (uuid_text s.endian id, f.0, (refl, f.1)) in
     then (step uuid_at IsUuid found e s next y order bytes goes)
 
 pub list_then : {V A Goal : Type 0} (one : Reading → Option (V × Reading)) (is : Endian → V → List ℕ → Type 0) → FoundBy one is
-    → (count : ℕ) (e : Endian) (s : Reading) (next : List V × Reading → Option A) (y : A) → s.endian ≡ e → IsBytes s.left → (times count one s >>= next) ≡ Some y 
+    → (count : ℕ) (e : Endian) (s : Reading) (next : List V × Reading → Option A) (y : A) → s.endian ≡ e → IsBytes s.left → (times count one s >>= next) ≡ Some y
     → (Step (IsCounted is count) e s next y → Goal) → Goal
 list_then {V} one is one_found count e s next y order bytes goes then =
     let found : FoundBy (times count one) (IsCounted is count) = λ s xs t h e. let f = list_found one is one_found count s xs t h e in (f.text, f.took, (f.many, f.listed)) in

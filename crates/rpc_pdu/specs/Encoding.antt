@@ -1,5 +1,5 @@
 -- The canonical encoding of a PDU: little-endian, with zero reserved bytes and padding.
-use Rattle.std.specs.Prelude.{◌≡◌, ℕ, ◌+◌, ◌≤◌, ◌<◌, List, [], ◌∷◌, ◌++◌, length, replicate, Option, Some, None, is_some, IsTrue}
+use Rattle.std.specs.Prelude.{◌≡◌, ℕ, ◌+◌, ◌^◌, ◌≤◌, ◌<◌, List, [], ◌∷◌, ◌++◌, length, replicate, Option, Some, None, is_some, IfSome, IsTrue}
 use Rattle.std.specs.List.{flat_map, AllByRecursion}
 use Rattle.wire_fields.specs.declared.endian.Endian.TheVariants.{Little}
 use Rattle.wire_fields.specs.Numbers.{num, uuid_text}
@@ -101,3 +101,54 @@ pub record CanSpell (pdu : Pdu) : Type 0 where
   pub object : ObjectFits pdu
   pub counts : CountsFit pdu
   pub size : 16 + length (body_text pdu) ≤ 65535
+
+-- ---- reading back
+
+-- What the types say of a PDU: its numbers keep to their widths, and identifiers have 16 bytes.
+abbrev pub SyntaxInRange : Syntax → Type 0
+SyntaxInRange s = (length s.id ≡ 16) × (s.version < 256 ^ 4)
+
+abbrev pub ProposalInRange : Proposal → Type 0
+ProposalInRange p = (p.id < 256 ^ 2) × SyntaxInRange p.abstract_syntax × AllByRecursion SyntaxInRange p.transfers
+
+abbrev pub VerdictInRange : Verdict → Type 0
+VerdictInRange v = (v.result < 256 ^ 2) × (v.reason < 256 ^ 2) × SyntaxInRange v.syntax
+
+abbrev pub VersionInRange : ℕ × ℕ → Type 0
+VersionInRange v = (v.0 < 256 ^ 1) × (v.1 < 256 ^ 1)
+
+abbrev pub HeadInRange : Head → Type 0
+HeadInRange head = (head.minor < 256 ^ 1) × (head.flags < 256 ^ 1) × (head.call_id < 256 ^ 4)
+
+abbrev pub BodyInRange : Pdu → Type 0
+BodyInRange (Request head hint context opnum object stub) = (hint < 256 ^ 4) × (context < 256 ^ 2) × (opnum < 256 ^ 2) × IfSome object (λ id. length id ≡ 16)
+BodyInRange (Response head hint context cancels stub) = (hint < 256 ^ 4) × (context < 256 ^ 2) × (cancels < 256 ^ 1)
+BodyInRange (Fault head hint context cancels status) = (hint < 256 ^ 4) × (context < 256 ^ 2) × (cancels < 256 ^ 1) × (status < 256 ^ 4)
+BodyInRange (Bind head xmit recv group proposals) = (xmit < 256 ^ 2) × (recv < 256 ^ 2) × (group < 256 ^ 4) × AllByRecursion ProposalInRange proposals
+BodyInRange (BindAck head xmit recv group address verdicts) = (xmit < 256 ^ 2) × (recv < 256 ^ 2) × (group < 256 ^ 4) × AllByRecursion VerdictInRange verdicts
+BodyInRange (BindNak head reason versions) = (reason < 256 ^ 2) × AllByRecursion VersionInRange versions
+BodyInRange (AlterContext head xmit recv group proposals) = (xmit < 256 ^ 2) × (recv < 256 ^ 2) × (group < 256 ^ 4) × AllByRecursion ProposalInRange proposals
+BodyInRange (AlterContextResp head xmit recv group address verdicts) = (xmit < 256 ^ 2) × (recv < 256 ^ 2) × (group < 256 ^ 4) × AllByRecursion VerdictInRange verdicts
+BodyInRange (Shutdown head) = Unit {0}
+BodyInRange (CoCancel head) = Unit {0}
+BodyInRange (Orphaned head) = Unit {0}
+
+abbrev pub InRange : Pdu → Type 0
+InRange pdu = HeadInRange (head_in pdu) × BodyInRange pdu
+
+-- The PDU in little-endian order.
+abbrev pub little : Head → Head
+little head = record head { endian = Little }
+
+abbrev pub in_little : Pdu → Pdu
+in_little (Request head hint context opnum object stub) = Request (little head) hint context opnum object stub
+in_little (Response head hint context cancels stub) = Response (little head) hint context cancels stub
+in_little (Fault head hint context cancels status) = Fault (little head) hint context cancels status
+in_little (Bind head xmit recv group proposals) = Bind (little head) xmit recv group proposals
+in_little (BindAck head xmit recv group address verdicts) = BindAck (little head) xmit recv group address verdicts
+in_little (BindNak head reason versions) = BindNak (little head) reason versions
+in_little (AlterContext head xmit recv group proposals) = AlterContext (little head) xmit recv group proposals
+in_little (AlterContextResp head xmit recv group address verdicts) = AlterContextResp (little head) xmit recv group address verdicts
+in_little (Shutdown head) = Shutdown (little head)
+in_little (CoCancel head) = CoCancel (little head)
+in_little (Orphaned head) = Orphaned (little head)

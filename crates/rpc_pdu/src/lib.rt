@@ -6,6 +6,7 @@ mod decoding;
 mod encoding;
 mod head;
 mod header;
+mod laws;
 mod pdu;
 mod pdu_fault;
 mod pdu_type;
@@ -21,6 +22,7 @@ pub use decoding::decode;
 pub use encoding::encode;
 pub use head::Head;
 pub use header::peek;
+pub use laws::encoding_reads_back;
 pub use pdu::Pdu;
 pub use pdu_fault::PduFault;
 pub use pdu_type::PduType;
@@ -31,3 +33,6 @@ pub use syntaxes::Syntaxes;
 pub use verdict::Verdict;
 pub use verdicts::Verdicts;
 pub use versions::Versions;
+
+#[cfg(test)]
+mod tests;
