@@ -1,13 +1,18 @@
 -- Reading a slice field by field.
-use Rattle.std.specs.Prelude.{◌≡◌, ℕ, zero, suc, ◌+◌, ◌-◌, ◌%◌, ◌==◌, List, [], ◌∷◌, length, take, drop, Option, Some, None, Result, Ok, Err, nat_lt, if◌then◌else◌}
+use Rattle.std.specs.Prelude.{◌≡◌, ℕ, zero, suc, ◌+◌, ◌-◌, ◌%◌, ◌^◌, ◌<◌, ◌==◌, List, [], ◌∷◌, length, take, drop, Option, Some, None, Result, Ok, Err, nat_lt, if◌then◌else◌}
 use Rattle.wire_fields.specs.declared.endian.Endian.{Endian}
-use Rattle.wire_fields.specs.Numbers.{number, uuid_text}
+use Rattle.wire_fields.specs.Numbers.{IsBytes, number, uuid_text}
 
 -- What a reader has before it: the byte order, how many bytes lie behind it, and those that are left.
 pub record Reading : Type 0 where
   pub endian : Endian
   pub place : ℕ
   pub left : List ℕ
+
+-- The bytes behind the place and those that are left are one slice.
+pub record IsWithinSlice (place : ℕ) (left : List ℕ) : Type 0 where
+  pub within : place + length left < 2 ^ 63
+  pub bytes : IsBytes left
 
 -- The reader so many bytes further on.
 abbrev pub after : ℕ → Reading → Reading

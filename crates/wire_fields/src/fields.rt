@@ -1,7 +1,7 @@
 //! A reader over a slice, field by field.
 
 ghost use Rattle.std.specs.Prelude.{◌≡◌, ℕ, ◌+◌, ◌<◌, ◌⊎◌, length};
-ghost use Rattle.wire_fields.specs.Numbers.{uuid_text};
+ghost use Rattle.wire_fields.specs.Numbers.{IsBytes, uuid_text};
 ghost use Rattle.wire_fields.specs.Reading.{Reading, Gives, align_at, bytes_at, gap, number_at, uuid_at};
 
 use crate::endian::Endian;
@@ -21,14 +21,13 @@ pub struct Fields<'a> {
 }
 
 impl<'a> Model for Fields<'a> {
-    ghost use Rattle.std.specs.Prelude.{ℕ, ◌+◌, ◌<◌, ◌^◌, length};
-    ghost use Rattle.wire_fields.specs.Reading.{Reading};
+    ghost use Rattle.wire_fields.specs.Reading.{Reading, IsWithinSlice};
 
     ghost Value = { Reading };
 
     ghost view = { λ fields. record { endian = fields.endian; place = fields.place; left = fields.rest.now } };
 
-    ghost invariant = { λ fields. fields.place + length fields.rest.now < 2 ^ 64 };
+    ghost invariant = { λ fields. IsWithinSlice fields.place fields.rest.now };
 }
 
 impl Drop for Fields<'_> {
@@ -57,6 +56,15 @@ impl<'a> Fields<'a> {
         ensures { result ≡ self.now.place }
     {
         self.place
+    }
+
+    /// The place of the next field that is aligned to `to`, also where it lies past the end.
+    pub fn aligned_place(&self, to: usize) -> usize
+        requires { (to ≡ 1) ⊎ (to ≡ 2) ⊎ (to ≡ 4) ⊎ (to ≡ 8) }
+        ensures place { result ≡ self.now.place + gap to self.now.place }
+        ensures bytes { IsBytes self.now.left }
+    {
+        self.place + gap_to(self.place, to)
     }
 
     /// How many bytes remain.

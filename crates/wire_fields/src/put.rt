@@ -1,6 +1,6 @@
 //! A writer that appends field by field.
 
-ghost use Rattle.std.specs.Prelude.{◌≡◌, ℕ, ◌⊎◌, [], length, replicate};
+ghost use Rattle.std.specs.Prelude.{◌≡◌, ℕ, ◌⊎◌, [], length, replicate, take};
 ghost use Rattle.wire_fields.specs.Numbers.{num, uuid_text};
 ghost use Rattle.wire_fields.specs.Reading.{gap};
 ghost use Rattle.wire_fields.specs.Written.{Adds};
@@ -105,6 +105,20 @@ impl Put {
         ensures { Adds result self.old self.new bytes.now }
     {
         self.bytes.extend_from_slice(bytes)
+    }
+
+    /// How many bytes were appended.
+    pub fn len(&self) -> usize
+        ensures { result ≡ length self.now.bytes }
+    {
+        self.bytes.len()
+    }
+
+    /// Takes back all bytes behind the first `len`.
+    pub fn truncate(&mut self, len: usize)
+        ensures { self.new ≡ record { endian = self.old.endian; bytes = take len self.old.bytes } }
+    {
+        self.bytes.truncate(len);
     }
 
     pub fn into_bytes(self) -> Vec<u8>
