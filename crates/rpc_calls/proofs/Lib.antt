@@ -4,4 +4,6 @@ pub mod HoldingLaws
 pub mod NextLaws
 pub mod PartUniqueness
 pub mod StreamUniqueness
+pub mod CallLaws
+pub mod CallsOfStreams
 pub mod CuttingLaws

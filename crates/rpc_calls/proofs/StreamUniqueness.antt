@@ -65,7 +65,7 @@ runs_front side place bt before l m (f ∷ xs) (g ∷ ys) a b r t y (p, n, i, mo
     let q_moved = moved side (place + length f) (place + length g) n n' m ys more' (omega arith) (sym step.2) q_runs in
     let rest = runs_front side (place + length f) bt n l m xs ys more more' r t y p_runs q_moved step.1 (omega (arith, length-append g (concat ys))) y_stops in
     let all : b ≡ put i (more ++ rest.0) = b_is ∙ (ap (λ (k : Option Item). put k more') (sym step.3) ∙ ap (put i) rest.1) in
-    (rest.0, all ∙ (sym (put_front i more rest.0) ∙ ap (λ (items : List Item). items ++ rest.0) (sym a_is)))
+    (rest.0, rw a_is (all ∙ sym (put_front i more rest.0)))
 
 pub given_front : (kept : Kept) (stream : List ℕ) (given all : List Item) (fault : Option IntakeFault) → Holds kept stream given → Items kept.side stream all fault → Front given all
 given_front kept stream given all fault holds (ys, m, t, reads, stops) =

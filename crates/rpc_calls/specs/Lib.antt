@@ -1,4 +1,5 @@
 pub mod Assembly
+pub mod Calls
 pub mod Cutting
 pub mod Fragments
 pub mod Frames

@@ -1,11 +1,13 @@
 //! Laws of streams, each the contract of a function that does nothing.
 
-ghost use Rattle.std.specs.Prelude.{◌≡◌, ◌+◌, ◌++◌, List, Option, ℕ, length};
+ghost use Rattle.std.specs.Prelude.{◌≡◌, ◌+◌, ◌++◌, [], List, Option, ℕ, length};
+ghost use Rattle.rpc_calls.specs.declared.call.Call.{Call};
 ghost use Rattle.rpc_calls.specs.declared.intake_fault.IntakeFault.{IntakeFault};
 ghost use Rattle.rpc_calls.specs.declared.item.Item.{Item};
 ghost use Rattle.rpc_calls.specs.declared.side.Side.{Side};
+ghost use Rattle.rpc_calls.specs.Calls.{ArePartsOf, ItemsAt, LeftIs};
 ghost use Rattle.rpc_calls.specs.Intakes.{Holds, Kept, stream_length};
-ghost use Rattle.rpc_calls.specs.Streams.{Items};
+ghost use Rattle.rpc_calls.specs.Streams.{Items, Reads};
 
 /// A stream has one list of items and at most one fault, however it is cut into pieces.
 pub fn items_are_one()
@@ -22,4 +24,16 @@ pub fn given_are_first()
 /// An intake knows how long its stream is.
 pub fn length_is_known()
     ensures { (kept : Kept) (stream : List ℕ) (given : List Item) → Holds kept stream given → stream_length kept ≡ length stream }
+{}
+
+/// Calls are the lists of their fragments: the items of the frames that were read are those that stand
+/// at their parts, and no other list of items stands there. The unfinished call is the one that the
+/// fragments tell of.
+pub fn calls_are_their_fragments()
+    ensures told { (side : Side) (stream : List ℕ) (frames : List (List ℕ)) (given : List Item) (left : Option Call) (rest : List ℕ)
+        → Reads side stream frames given left rest
+        → (parts : List Item) × ArePartsOf frames parts × ItemsAt side [] parts given × LeftIs side parts left }
+    ensures no_others { (side : Side) (stream : List ℕ) (frames : List (List ℕ)) (given : List Item) (left : Option Call) (rest : List ℕ)
+        → Reads side stream frames given left rest
+        → (parts other : List Item) → ArePartsOf frames parts → ItemsAt side [] parts other → other ≡ given }
 {}
