@@ -3,6 +3,7 @@ pub mod FrameRuns
 pub mod HoldingLaws
 pub mod NextLaws
 pub mod PartUniqueness
+pub mod ReplyLaws
 pub mod StreamUniqueness
 pub mod CallLaws
 pub mod CallsOfStreams

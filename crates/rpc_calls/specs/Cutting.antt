@@ -4,11 +4,16 @@ use Rattle.wire_fields.specs.declared.endian.Endian.TheVariants.{Little}
 use Rattle.rpc_pdu.specs.declared.head.Head.{Head}
 use Rattle.rpc_pdu.specs.declared.pdu.Pdu.{Pdu}
 use Rattle.rpc_pdu.specs.declared.pdu.Pdu.TheVariants.{Response}
+use Rattle.rpc_calls.specs.declared.call.Call.{Call}
 
 -- A response with these flags, so many bytes of stub from here on, and this stub.
 abbrev pub response_piece : ℕ → ℕ → ℕ → ℕ → List ℕ → Pdu
 response_piece call_id context flags hint stub =
     Response (record { endian = Little; minor = 0; flags = flags; call_id = call_id }) hint context 0 stub
+
+-- A reply on the client's side.
+abbrev pub replied : ℕ → ℕ → List ℕ → Call
+replied call_id context stub = record { context = context; opnum = 0; call_id = call_id; endian = Little; stub = stub }
 
 -- How much stub a fragment has that isn't the last: a multiple of 8.
 abbrev pub room_of : ℕ → ℕ

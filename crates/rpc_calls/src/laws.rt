@@ -1,12 +1,18 @@
 //! Laws of streams, each the contract of a function that does nothing.
 
-ghost use Rattle.std.specs.Prelude.{◌≡◌, ◌+◌, ◌++◌, [], List, Option, ℕ, length};
+ghost use Rattle.std.specs.Prelude.{◌≡◌, ◌+◌, ◌++◌, ◌^◌, ◌<◌, ◌≤◌, [], ◌∷◌, List, map, Option, ℕ, length};
+ghost use Rattle.std.specs.List.{concat};
+ghost use Rattle.rpc_pdu.specs.declared.pdu.Pdu.{Pdu};
+ghost use Rattle.rpc_pdu.specs.Encoding.{spelling};
 ghost use Rattle.rpc_calls.specs.declared.call.Call.{Call};
 ghost use Rattle.rpc_calls.specs.declared.intake_fault.IntakeFault.{IntakeFault};
 ghost use Rattle.rpc_calls.specs.declared.item.Item.{Item};
 ghost use Rattle.rpc_calls.specs.declared.side.Side.{Side};
+ghost use Rattle.rpc_calls.specs.declared.side.Side.TheVariants.{Client};
+ghost use Rattle.rpc_calls.specs.Assembly.{most_stub};
 ghost use Rattle.rpc_calls.specs.Calls.{ArePartsOf, ItemsAt, LeftIs};
-ghost use Rattle.rpc_calls.specs.Intakes.{Holds, Kept, stream_length};
+ghost use Rattle.rpc_calls.specs.Cutting.{CutInto, replied, response_piece};
+ghost use Rattle.rpc_calls.specs.Intakes.{Holds, Kept, no_fault, stream_length};
 ghost use Rattle.rpc_calls.specs.Streams.{Items, Reads};
 
 /// A stream has one list of items and at most one fault, however it is cut into pieces.
@@ -36,4 +42,11 @@ pub fn calls_are_their_fragments()
     ensures no_others { (side : Side) (stream : List ℕ) (frames : List (List ℕ)) (given : List Item) (left : Option Call) (rest : List ℕ)
         → Reads side stream frames given left rest
         → (parts other : List Item) → ArePartsOf frames parts → ItemsAt side [] parts other → other ≡ given }
+{}
+
+/// A reply that was cut is, on the client's side, one call with its stub.
+pub fn replies_are_joined()
+    ensures { (call_id context most : ℕ) (stub : List ℕ) (pdus : List Pdu) → call_id < 256 ^ 4 → context < 256 ^ 2 → most ≤ 5816 → length stub ≤ most_stub
+        → CutInto (response_piece call_id context) most 1 stub pdus
+        → Items Client (concat (map spelling pdus)) (Item.Call (replied call_id context stub) ∷ []) no_fault }
 {}

@@ -1,6 +1,7 @@
 //! A reply as fragments that its receiver takes.
 
-ghost use Rattle.std.specs.Prelude.{◌≡◌, ◌+◌, ◌<◌, ◌≤◌, ◌^◌, ◌-◌, IfOk, length};
+ghost use Rattle.std.specs.Prelude.{◌≡◌, ◌+◌, ◌<◌, ◌≤◌, ◌^◌, ◌-◌, All, IfOk, length};
+ghost use Rattle.rpc_pdu.specs.Encoding.{CanSpell};
 ghost use Rattle.rpc_calls.specs.Cutting.{CutInto, response_piece};
 
 use rpc_pdu::{Head, Pdu};
@@ -17,7 +18,8 @@ pub fn cut_reply(alloc: Global, call_id: u32, context: u16, max_xmit: u16, stub:
     requires least { 1432 ≤ max_xmit }
     requires greatest { max_xmit ≤ 5840 }
     requires size { length stub.now < 2 ^ 32 }
-    ensures { IfOk result (λ pdus. CutInto (response_piece call_id context) (max_xmit - 24) 1 stub.now pdus.items) }
+    ensures cut { IfOk result (λ pdus. CutInto (response_piece call_id context) (max_xmit - 24) 1 stub.now pdus.items) }
+    ensures spells { IfOk result (λ pdus. All CanSpell pdus.items) }
 {
     let most = max_xmit as usize - FRONT_LENGTH;
     let room = most / ALIGNMENT * ALIGNMENT;

@@ -4,6 +4,7 @@ use Rattle.std.proofs.lemmas.List.{take_rest}
 use Rattle.rpc_pdu.specs.declared.pdu.Pdu.{Pdu}
 use Rattle.rpc_calls.specs.Cutting.{CutInto, response_piece}
 use Rattle.rpc_calls.proofs.CuttingLaws.{Completes, last_piece, next_piece}
+use Rattle.rpc_calls.proofs.ReplyLaws.{all_spell}
 use Rattle.rpc_calls.proofs.replies.cut_reply.Goals as goal
 
 pub pieces-preserved : goal.pieces-preserved
@@ -22,8 +23,8 @@ pieces-preserved c =
       completes = λ more cut. rw c.in_ok-push.ensures.items (step more cut);
     }
 
-pub returns : goal.returns
-returns c =
+pub returns-clause-cut : goal.returns-clause-cut
+returns-clause-cut c =
     let stub = c.args.stub.now in
     let place = c.pieces.place in
     let most = c.args.max_xmit - 24 in
@@ -33,3 +34,7 @@ returns c =
     let short : length (drop place stub) ≤ most = omega (arith, left, c.pieces-test.false) in
     rw c.in_ok-push-2.ensures.items
     (last_piece piece most c.pieces.first place stub c.pieces.pdus.items c.in_ok-response-2.field-0 _ _ c.in_ok-response-2.ensures (rw rest refl) rest c.pieces.invariant.completes short)
+
+pub returns-clause-spells : goal.returns-clause-spells
+returns-clause-spells c =
+    all_spell c.args.call_id c.args.context (c.args.max_xmit - 24) 1 c.args.stub.now c.push-2.new.self.items (omega arith) (returns-clause-cut c)
