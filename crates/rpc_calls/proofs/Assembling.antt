@@ -1,6 +1,6 @@
 -- Joining fragments keeps a stub short; which faults stand.
-use Rattle.std.proofs.Common.{◌≡◌, ◌⊎◌, ℕ, ◌+◌, ◌≤◌, Bool, true, false, List, [], ◌∷◌, ◌++◌, length, take, drop, refl, sym, ap, ◌∙◌, subst, inl, inr, arith}
-use Rattle.std.specs.Prelude.{Option, Some, None, Result, Ok, Err, ◌==◌, nat_lt, if◌then◌else◌}
+use Rattle.std.proofs.Common.{◌≡◌, ℕ, ◌≤◌, Bool, true, false, List, length, take, drop, refl, sym, ap, inr, arith}
+use Rattle.std.specs.Prelude.{Option, Some, None, Ok, Err, ◌==◌, nat_lt, if◌then◌else◌}
 use Rattle.std.proofs.lemmas.Bool.{ltb-false}
 use Rattle.std.proofs.lemmas.List.{take-append-drop}
 use Rattle.rpc_calls.specs.declared.call.Call.{Call}
@@ -9,7 +9,7 @@ use Rattle.rpc_calls.specs.declared.intake_fault.IntakeFault.TheVariants as faul
 use Rattle.rpc_calls.specs.declared.item.Item.{Item}
 use Rattle.rpc_calls.specs.declared.item.Item.TheVariants as items
 use Rattle.rpc_calls.specs.declared.side.Side.{Side}
-use Rattle.rpc_calls.specs.Assembly.{Outcome, ended, extended, finished_if, goes_on, joined, kept_by, most_stub, stub_length, taken, taken_as}
+use Rattle.rpc_calls.specs.Assembly.{ended, extended, finished_if, goes_on, joined, kept_by, most_stub, stub_length, taken, taken_as}
 use Rattle.rpc_calls.specs.Fragments.{fragment_of, is_first, is_last, orphan_of}
 use Rattle.rpc_calls.specs.Frames.{IsFrame}
 use Rattle.rpc_calls.specs.Intakes.{Kept}

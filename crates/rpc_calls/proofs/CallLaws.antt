@@ -1,15 +1,14 @@
 -- Joining fragment by fragment gives the calls that are the lists of their fragments, and no others.
-use Rattle.std.proofs.Common.{◌≡◌, ◌⊎◌, ℕ, ◌+◌, ◌≤◌, Bool, true, false, List, [], ◌∷◌, ◌++◌, length, refl, sym, ap, ◌∙◌, subst, inl, inr, append_assoc, length-append, arith}
-use Rattle.std.specs.Prelude.{◌≢◌, Option, Some, None, Result, Ok, Err, ◌==◌, nat_lt, if◌then◌else◌}
-use Rattle.std.proofs.lemmas.Bool.{eq-eqb, eqb-true, le-ltb, ltb-false}
+use Rattle.std.proofs.Common.{◌≡◌, ℕ, ◌≤◌, Bool, true, false, List, [], ◌∷◌, ◌++◌, length, refl, sym, ap, ◌∙◌, subst, inl, inr, append_assoc}
+use Rattle.std.specs.Prelude.{Option, Some, None, Err, ◌==◌, nat_lt, if◌then◌else◌}
+use Rattle.std.proofs.lemmas.Bool.{eq-eqb, eqb-true, ltb-false}
 use Rattle.std.proofs.lemmas.List.{append-nil}
 use Rattle.rpc_calls.specs.declared.call.Call.{Call}
-use Rattle.rpc_calls.specs.declared.intake_fault.IntakeFault.{IntakeFault}
 use Rattle.rpc_calls.specs.declared.intake_fault.IntakeFault.TheVariants as faults
 use Rattle.rpc_calls.specs.declared.item.Item.{Item}
 use Rattle.rpc_calls.specs.declared.item.Item.TheVariants as items
 use Rattle.rpc_calls.specs.declared.side.Side.{Side}
-use Rattle.rpc_calls.specs.Assembly.{Outcome, ended, extended, finished_if, goes_on, joined, kept_by, most_stub, taken, taken_as}
+use Rattle.rpc_calls.specs.Assembly.{ended, extended, finished_if, goes_on, joined, kept_by, most_stub, taken, taken_as}
 use Rattle.rpc_calls.specs.Calls.{IsCall, IsFragment, IsUnfinished, ItemAt, Middles, StandsApart}
 use Rattle.rpc_calls.specs.Fragments.{fragment_of, is_first, is_last, orphan_of, with_stub}
 use Rattle.rpc_calls.proofs.Assembling.{goes_on-same}
@@ -137,18 +136,18 @@ sound_same side done part u c flags place true next item is first same sound e =
     let ids : c.call_id ≡ u.call_id = sym (eqb-true u.call_id c.call_id same) in
     let whole = with_stub u (u.stub ++ c.stub) in
     sound_end side done part (is_last flags) (nat_lt most_stub (length whole.stub)) place whole next item refl
-      (λ last short. inr (u, c, sound, fragment_is side part c flags false true is first last, ids, short, refl))
-      (λ last. (unfinished_more side done part u c sound (fragment_is side part c flags false false is first last) ids, (c, false, fragment_is side part c flags false false is first last)))
-      e
+    (λ last short. inr (u, c, sound, fragment_is side part c flags false true is first last, ids, short, refl))
+    (λ last. (unfinished_more side done part u c sound (fragment_is side part c flags false false is first last) ids, (c, false, fragment_is side part c flags false false is first last)))
+    e
 
 sound_fragment : (side : Side) (done : List Item) (part : Item) (before : Option Call) (c : Call) (flags : ℕ) (place : ℕ) (first : Bool) (next : Option Call) (item : Option Item)
     → fragment_of side part ≡ Some (c, flags) → is_first flags ≡ first → Sound side done before → ended place (is_last flags) (extended before c first) ≡ goes_on next item → SoundStep side done part next item
 sound_fragment side done part None c flags place false next item is first_is sound e = absurd cc
 sound_fragment side done part None c flags place true next item is first_is sound e =
     sound_end side done part (is_last flags) (nat_lt most_stub (length c.stub)) place c next item refl
-      (λ last short. inl (fragment_is side part c flags true true is first_is last, short))
-      (λ last. (unfinished_first side done part c (fragment_is side part c flags true false is first_is last), (c, true, fragment_is side part c flags true false is first_is last)))
-      e
+    (λ last short. inl (fragment_is side part c flags true true is first_is last, short))
+    (λ last. (unfinished_first side done part c (fragment_is side part c flags true false is first_is last), (c, true, fragment_is side part c flags true false is first_is last)))
+    e
 sound_fragment side done part (Some u) c flags place true next item is first_is sound e = absurd cc
 sound_fragment side done part (Some u) c flags place false next item is first_is sound e =
     sound_same side done part u c flags place (u.call_id == c.call_id) next item is first_is refl sound e

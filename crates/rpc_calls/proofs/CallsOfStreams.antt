@@ -1,6 +1,6 @@
 -- The items of a stream's parts, told by the lists of fragments, are those that the frames give one by one.
-use Rattle.std.proofs.Common.{◌≡◌, ◌⊎◌, ℕ, ◌+◌, ◌≤◌, Bool, true, false, List, [], ◌∷◌, ◌++◌, length, refl, sym, ap, ◌∙◌, subst, inl, inr, append_assoc, arith}
-use Rattle.std.specs.Prelude.{Option, Some, None, Result, Ok, Err, ◌==◌, nat_lt, if◌then◌else◌}
+use Rattle.std.proofs.Common.{◌≡◌, ℕ, ◌+◌, Bool, true, false, List, [], ◌∷◌, ◌++◌, length, refl, sym, ap, ◌∙◌, subst, inl, inr, append_assoc}
+use Rattle.std.specs.Prelude.{Option, Some, None, Err, ◌==◌, nat_lt, if◌then◌else◌}
 use Rattle.std.proofs.lemmas.Bool.{eq-eqb, eqb-true}
 use Rattle.std.proofs.lemmas.List.{append-nil}
 use Rattle.rpc_calls.specs.declared.call.Call.{Call}
@@ -8,9 +8,9 @@ use Rattle.rpc_calls.specs.declared.intake_fault.IntakeFault.TheVariants as faul
 use Rattle.rpc_calls.specs.declared.item.Item.{Item}
 use Rattle.rpc_calls.specs.declared.item.Item.TheVariants as items
 use Rattle.rpc_calls.specs.declared.side.Side.{Side}
-use Rattle.rpc_calls.specs.Assembly.{Outcome, ended, extended, finished_if, goes_on, joined, kept_by, most_stub, taken, taken_as}
+use Rattle.rpc_calls.specs.Assembly.{ended, extended, finished_if, goes_on, joined, kept_by, most_stub, taken, taken_as}
 use Rattle.rpc_calls.specs.Calls.{ArePartsOf, IsFragment, IsUnfinished, ItemAt, ItemsAt, LeftIs, Middles, StandsApart}
-use Rattle.rpc_calls.specs.Fragments.{fragment_of, is_first, is_last, orphan_of, with_stub}
+use Rattle.rpc_calls.specs.Fragments.{fragment_of, is_first, orphan_of, with_stub}
 use Rattle.rpc_calls.specs.Streams.{Reads, Runs, put}
 use Rattle.rpc_calls.proofs.Assembling.{goes_on-same}
 use Rattle.rpc_calls.proofs.CallLaws.{Sound, sound_step}

@@ -1,5 +1,5 @@
 -- A stub is cut piece by piece.
-use Rattle.std.proofs.Common.{◌≡◌, ℕ, ◌+◌, ◌≤◌, ◌<◌, List, [], ◌∷◌, ◌++◌, length, take, drop, refl, sym, subst, append_assoc, arith}
+use Rattle.std.proofs.Common.{◌≡◌, ℕ, ◌+◌, ◌≤◌, ◌<◌, List, [], ◌∷◌, ◌++◌, length, take, drop, refl, sym, subst, append_assoc}
 use Rattle.std.proofs.lemmas.List.{drop-drop}
 use Rattle.rpc_pdu.specs.declared.pdu.Pdu.{Pdu}
 use Rattle.rpc_calls.specs.Cutting.{CutInto, room_of}

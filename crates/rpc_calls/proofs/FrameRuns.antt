@@ -1,21 +1,20 @@
 -- Frames that were read, and one more; what is read stays so when the stream goes on.
-use Rattle.std.proofs.Common.{◌≡◌, ◌⊎◌, ℕ, ◌+◌, ◌≤◌, ◌<◌, Bool, true, false, List, [], ◌∷◌, ◌++◌, length, take, drop, refl, sym, ap, ◌∙◌, subst, inl, inr, append_assoc, length-append, length-drop, arith}
+use Rattle.std.proofs.Common.{◌≡◌, ℕ, ◌+◌, ◌≤◌, Bool, true, false, List, [], ◌∷◌, ◌++◌, length, take, drop, refl, length-append, length-drop, arith}
 use Rattle.std.specs.Prelude.{Option, Some, None, nat_lt, if◌then◌else◌}
 use Rattle.std.proofs.lemmas.Bool.{le-ltb, ltb-false}
 use Rattle.std.specs.List.{concat}
 use Rattle.std.proofs.lemmas.List.{append-nil, drop-append-le, get_or_append_left, take-append-le}
 use Rattle.std.proofs.lemmas.List.Folds.{concat-append}
-use Rattle.rpc_pdu.specs.Header.{frag_length, order_with, peek_at}
+use Rattle.rpc_pdu.specs.Header.{frag_length, peek_at}
 use Rattle.wire_fields.specs.declared.endian.Endian.{Endian}
 use Rattle.wire_fields.specs.Numbers.{number}
 use Rattle.rpc_calls.specs.declared.call.Call.{Call}
-use Rattle.rpc_calls.specs.declared.intake_fault.IntakeFault.{IntakeFault}
 use Rattle.rpc_calls.specs.declared.item.Item.{Item}
 use Rattle.rpc_calls.specs.declared.side.Side.{Side}
 use Rattle.rpc_calls.specs.Assembly.{goes_on, taken}
 use Rattle.rpc_calls.specs.Frames.{IsFrame, TooShort}
 use Rattle.rpc_calls.specs.Parts.{IsPart}
-use Rattle.rpc_calls.specs.Streams.{FaultAt, Reads, Runs, put}
+use Rattle.rpc_calls.specs.Streams.{Runs, put}
 
 pub put_front : (item : Option Item) (more front : List Item) → put item more ++ front ≡ put item (more ++ front)
 put_front None more front = refl

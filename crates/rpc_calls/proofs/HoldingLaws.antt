@@ -1,16 +1,14 @@
 -- What an intake holds, from call to call.
-use Rattle.std.proofs.Common.{◌≡◌, ◌⊎◌, ℕ, ◌+◌, ◌≤◌, ◌<◌, List, [], ◌∷◌, ◌++◌, length, take, drop, refl, sym, ap, ◌∙◌, subst, inl, inr, append_assoc, length-append, arith}
+use Rattle.std.proofs.Common.{◌≡◌, ℕ, List, [], ◌++◌, length, refl, sym, ap, subst, inl, inr, append_assoc, length-append, arith}
 use Rattle.std.specs.Prelude.{Option, Some, None, Result, Ok, Err, OnOk}
 use Rattle.std.specs.List.{concat}
 use Rattle.rpc_calls.specs.declared.call.Call.{Call}
 use Rattle.rpc_calls.specs.declared.feed_fault.FeedFault.{FeedFault}
 use Rattle.rpc_calls.specs.declared.intake_fault.IntakeFault.{IntakeFault}
-use Rattle.rpc_calls.specs.declared.intake_fault.IntakeFault.TheVariants as faults
 use Rattle.rpc_calls.specs.declared.item.Item.{Item}
 use Rattle.rpc_calls.specs.declared.side.Side.{Side}
-use Rattle.rpc_calls.specs.Frames.{TooShort}
 use Rattle.rpc_calls.specs.Intakes.{FaultStands, FeedIs, Holds, Kept, fed, fresh, stream_length}
-use Rattle.rpc_calls.specs.Streams.{FaultAt, Reads, Runs}
+use Rattle.rpc_calls.specs.Streams.{FaultAt, Runs}
 use Rattle.rpc_calls.proofs.FrameRuns.{TooShort-append}
 
 -- ---- the beginning

@@ -1,19 +1,17 @@
 -- The turns of `next`: what was read before stays read, and how each turn ends.
-use Rattle.std.proofs.Common.{◌≡◌, ◌⊎◌, ℕ, ◌+◌, ◌≤◌, ◌<◌, List, [], ◌∷◌, ◌++◌, length, take, drop, refl, sym, ap, ◌∙◌, subst, inl, inr, append_assoc, length-append, arith}
+use Rattle.std.proofs.Common.{◌≡◌, ℕ, List, [], ◌∷◌, ◌++◌, length, refl, sym, ap, ◌∙◌, subst, append_assoc, length-append, arith}
 use Rattle.std.specs.Prelude.{Option, Some, None, Result, Ok, Err}
 use Rattle.std.specs.List.{concat}
 use Rattle.std.proofs.lemmas.List.{append-nil}
 use Rattle.rpc_pdu.specs.declared.pdu_fault.PduFault.TheVariants as pdu_faults
-use Rattle.rpc_calls.specs.declared.call.Call.{Call}
 use Rattle.rpc_calls.specs.declared.intake_fault.IntakeFault.{IntakeFault}
 use Rattle.rpc_calls.specs.declared.intake_fault.IntakeFault.TheVariants as faults
 use Rattle.rpc_calls.specs.declared.item.Item.{Item}
 use Rattle.rpc_calls.specs.declared.side.Side.{Side}
-use Rattle.rpc_calls.specs.Assembly.{goes_on, stub_length, taken}
-use Rattle.rpc_calls.specs.Frames.{IsFrame, Waits}
+use Rattle.rpc_calls.specs.Assembly.{stub_length}
+use Rattle.rpc_calls.specs.Frames.{Waits}
 use Rattle.rpc_calls.specs.Intakes.{AtEnd, BehindItem, FaultStands, Holds, IsLasting, Kept, LastsIfAny, NextIs, NoMemoryInside, NumbersAre, Stays, no_fault}
-use Rattle.rpc_calls.specs.Parts.{IsPart}
-use Rattle.rpc_calls.specs.Streams.{FaultAt, Items, Leave, Reads, Runs, StopsBy, put}
+use Rattle.rpc_calls.specs.Streams.{FaultAt, Items, Reads, Runs, StopsBy, put}
 use Rattle.rpc_calls.specs.Turns.{Goes, MayStand, refused, reported}
 use Rattle.rpc_calls.proofs.FrameRuns.{concat_more, runs_more}
 
@@ -149,11 +147,11 @@ reported_stays kept = record { side = refl; length = refl }
 waits_reported : (first old : Kept) → GoneOn first old → Waits old.rest → Ends given_none first (reported old)
 waits_reported first old gone waits = record {
   gives = λ stream given holds.
-    let now = holds_reported old stream given gone.healthy (gone.carries stream given holds) in
-    (now, ends_at (reported old) no_fault stream given now waits);
+      let now = holds_reported old stream given gone.healthy (gone.carries stream given holds) in
+      (now, ends_at (reported old) no_fault stream given now waits);
   numbers = λ stream given holds.
-    let now = holds_reported old stream given gone.healthy (gone.carries stream given holds) in
-    tells_at (reported old) no_fault stream given now waits refl refl;
+      let now = holds_reported old stream given gone.healthy (gone.carries stream given holds) in
+      tells_at (reported old) no_fault stream given now waits refl refl;
   stays = stays_on first old (reported old) gone.stays (reported_stays old);
 }
 
@@ -181,7 +179,7 @@ behind_item first old new item gone goes stream given holds =
 gives_reported : (first old new : Kept) (item : Item) → GoneOn first old → Goes old new (Some item) → Ends (given_item item) first (reported new)
 gives_reported first old new item gone goes = record {
   gives = λ stream given holds.
-    holds_reported new stream (given ++ item ∷ []) goes.healthy (holds_goes old new (Some item) stream given goes (gone.carries stream given holds));
+      holds_reported new stream (given ++ item ∷ []) goes.healthy (holds_goes old new (Some item) stream given goes (gone.carries stream given holds));
   numbers = behind_item first old new item gone goes;
   stays = stays_on first new (reported new) (stays_on first old new gone.stays (goes_stays old new (Some item) goes)) (reported_stays new);
 }

@@ -1,6 +1,6 @@
 -- The pieces of a reply have encodings, and joined on the client's side they are one call.
-use Rattle.std.proofs.Common.{◌≡◌, ℕ, ◌+◌, ◌*◌, ◌^◌, ◌≤◌, ◌<◌, Bool, true, false, List, [], ◌∷◌, ◌++◌, length, take, drop, refl, sym, ap, ◌∙◌, subst, append_assoc, length-append, arith}
-use Rattle.std.specs.Prelude.{Option, Some, None, ◌==◌, nat_lt, if◌then◌else◌, map}
+use Rattle.std.proofs.Common.{◌≡◌, ℕ, ◌+◌, ◌^◌, ◌≤◌, ◌<◌, Bool, true, false, List, [], ◌∷◌, ◌++◌, length, take, drop, refl, sym, ap, ◌∙◌, subst, append_assoc, length-append, arith}
+use Rattle.std.specs.Prelude.{Option, Some, None, nat_lt, map}
 use Rattle.std.specs.List.{All, concat}
 use Rattle.std.proofs.Math.Nat.{div-mul-le_self}
 use Rattle.std.proofs.lemmas.Bool.{eq-eqb, le-ltb}
@@ -10,7 +10,7 @@ use Rattle.std.specs.List.{AllByRecursion}
 use Rattle.rpc_pdu.specs.declared.pdu.Pdu.{Pdu}
 use Rattle.rpc_pdu.specs.Encoding.{CanSpell, spelling}
 use Rattle.rpc_pdu.specs.Grammar.{IsPdu}
-use Rattle.rpc_pdu.specs.Header.{frag_length, peek_at}
+use Rattle.rpc_pdu.specs.Header.{frag_length}
 use Rattle.rpc_pdu.specs.PduTypes.{head_in, type_of}
 use Rattle.rpc_pdu.proofs.Answered.{response_spells}
 use Rattle.rpc_pdu.proofs.EncodingLaws.{encoding_spells}
@@ -22,7 +22,7 @@ use Rattle.rpc_calls.specs.declared.call.Call.{Call}
 use Rattle.rpc_calls.specs.declared.item.Item.{Item}
 use Rattle.rpc_calls.specs.declared.item.Item.TheVariants as items
 use Rattle.rpc_calls.specs.declared.side.Side.TheVariants.{Client}
-use Rattle.rpc_calls.specs.Assembly.{ended, extended, finished_if, goes_on, joined, most_stub, no_call, taken}
+use Rattle.rpc_calls.specs.Assembly.{ended, extended, finished_if, joined, most_stub, no_call, taken}
 use Rattle.rpc_calls.specs.Cutting.{CutInto, response_piece, replied, room_of}
 use Rattle.rpc_calls.specs.Frames.{IsFrame}
 use Rattle.rpc_calls.specs.Intakes.{no_fault}
@@ -134,9 +134,17 @@ pieces_run call_id context most place first front stub (p ∷ []) id_fits contex
     let piece = response_piece call_id context (flag_of first + 2) (length stub) stub in
     let hint_fits : length stub < 256 ^ 4 = omega (arith, length-append front stub) in
     let made = piece_is_pdu call_id context (flag_of first + 2) (length stub) most stub fits small id_fits context_fits (flags-small first true) hint_fits in
-    let spelled : IsPdu (spelling p) piece = subst (λ (q : Pdu). IsPdu (spelling q) piece) (sym is) made in
-    (items.Single piece, None, Some (items.Call (replied call_id context (front ++ stub))), [], pdu_is_frame (spelling p) piece spelled, spelled,
-    piece_taken call_id context (length stub) place first true front stub none short, refl, (refl, refl))
+    let spelled : IsPdu (spelling p) piece = subst (λ (q : Pdu). IsPdu (spelling q) piece) (sym is) made in (
+      items.Single piece,
+      None,
+      Some (items.Call (replied call_id context (front ++ stub))),
+      [],
+      pdu_is_frame (spelling p) piece spelled,
+      spelled,
+      piece_taken call_id context (length stub) place first true front stub none short,
+      refl,
+      (refl, refl),
+    )
 pieces_run call_id context most place first front stub (p ∷ q ∷ more) id_fits context_fits small none short (long, is, cut) =
     let head = take (room_of most) stub in
     let rest = drop (room_of most) stub in
@@ -149,9 +157,17 @@ pieces_run call_id context most place first front stub (p ∷ q ∷ more) id_fit
     let short_all : length ((front ++ head) ++ rest) ≤ most_stub = rw regrouped short in
     let runs = pieces_run call_id context most (place + length (spelling p)) false (front ++ head) rest (q ∷ more) id_fits context_fits small tt short_all cut in
     let P : List ℕ → Type 0 =
-    λ all. Runs Client (place + length (spelling p)) (Some (replied call_id context (front ++ head))) (map spelling (q ∷ more)) (one_call call_id context all) no_call in
-    (items.Single piece, Some (replied call_id context (front ++ head)), None, one_call call_id context (front ++ stub), pdu_is_frame (spelling p) piece spelled, spelled,
-    piece_taken call_id context (length stub) place first false front head none short_front, refl, subst P regrouped runs)
+    λ all. Runs Client (place + length (spelling p)) (Some (replied call_id context (front ++ head))) (map spelling (q ∷ more)) (one_call call_id context all) no_call in (
+      items.Single piece,
+      Some (replied call_id context (front ++ head)),
+      None,
+      one_call call_id context (front ++ stub),
+      pdu_is_frame (spelling p) piece spelled,
+      spelled,
+      piece_taken call_id context (length stub) place first false front head none short_front,
+      refl,
+      subst P regrouped runs,
+    )
 
 pub replies_join : (call_id context most : ℕ) (stub : List ℕ) (pdus : List Pdu) → call_id < 256 ^ 4 → context < 256 ^ 2 → most ≤ 5816 → length stub ≤ most_stub
     → CutInto (response_piece call_id context) most 1 stub pdus → Items Client (concat (map spelling pdus)) (one_call call_id context stub) no_fault

@@ -1,12 +1,11 @@
 -- A stream has one list of items and one fault, and what was given of it comes first.
 use Rattle.std.proofs.Common.{◌≡◌, ℕ, ◌+◌, List, [], ◌∷◌, ◌++◌, length, refl, sym, ap, ◌∙◌, subst, append_assoc, length-append, arith}
-use Rattle.std.specs.Prelude.{Option, Some, None}
+use Rattle.std.specs.Prelude.{Option, None}
 use Rattle.std.specs.List.{concat}
 use Rattle.rpc_calls.specs.declared.call.Call.{Call}
 use Rattle.rpc_calls.specs.declared.intake_fault.IntakeFault.{IntakeFault}
 use Rattle.rpc_calls.specs.declared.item.Item.{Item}
 use Rattle.rpc_calls.specs.declared.side.Side.{Side}
-use Rattle.rpc_calls.specs.Frames.{IsFrame}
 use Rattle.rpc_calls.specs.Intakes.{Holds, Kept}
 use Rattle.rpc_calls.specs.Streams.{Items, Runs, StopsBy, put}
 use Rattle.rpc_calls.proofs.FrameRuns.{put_front}
@@ -50,6 +49,9 @@ items_agree side stream a b x y (xs, l, r, reads, stops) (ys, m, t, reads', stop
 abbrev Front : List Item → List Item → Type 0
 Front given all = (more : List Item) × (all ≡ given ++ more)
 
+front_step : (i j : Option Item) (a b more all tail : List Item) → a ≡ put i more → b ≡ put j all → i ≡ j → all ≡ more ++ tail → b ≡ a ++ tail
+front_step i j a b more all tail a_is b_is same rest = rw (b_is, ← same, rest, a_is) (sym (put_front i more tail))
+
 runs_front : (side : Side) (place bt : ℕ) (before l m : Option Call) (xs ys : List (List ℕ)) (a b : List Item) (r t : List ℕ) (y : Option IntakeFault)
     → Runs side place before xs a l → Runs side place before ys b m → concat xs ++ r ≡ concat ys ++ t → bt ≡ place + length (concat ys) → StopsBy side bt m t y → Front a b
 unfolding Runs
@@ -64,8 +66,7 @@ runs_front side place bt before l m (f ∷ xs) (g ∷ ys) a b r t y (p, n, i, mo
     let long : length f ≡ length g = ap length step.0 in
     let q_moved = moved side (place + length f) (place + length g) n n' m ys more' (omega arith) (sym step.2) q_runs in
     let rest = runs_front side (place + length f) bt n l m xs ys more more' r t y p_runs q_moved step.1 (omega (arith, length-append g (concat ys))) y_stops in
-    let all : b ≡ put i (more ++ rest.0) = b_is ∙ (ap (λ (k : Option Item). put k more') (sym step.3) ∙ ap (put i) rest.1) in
-    (rest.0, rw a_is (all ∙ sym (put_front i more rest.0)))
+    (rest.0, front_step i j a b more more' rest.0 a_is b_is step.3 rest.1)
 
 pub given_front : (kept : Kept) (stream : List ℕ) (given all : List Item) (fault : Option IntakeFault) → Holds kept stream given → Items kept.side stream all fault → Front given all
 given_front kept stream given all fault holds (ys, m, t, reads, stops) =

@@ -1,7 +1,6 @@
 -- A stub is cut into fragments (C706 12.6.4).
 use Rattle.std.specs.Prelude.{◌≡◌, ℕ, ◌+◌, ◌*◌, ◌/◌, ◌<◌, ◌≤◌, List, [], ◌∷◌, length, take, drop}
 use Rattle.wire_fields.specs.declared.endian.Endian.TheVariants.{Little}
-use Rattle.rpc_pdu.specs.declared.head.Head.{Head}
 use Rattle.rpc_pdu.specs.declared.pdu.Pdu.{Pdu}
 use Rattle.rpc_pdu.specs.declared.pdu.Pdu.TheVariants.{Response}
 use Rattle.rpc_calls.specs.declared.call.Call.{Call}

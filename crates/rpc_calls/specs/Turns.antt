@@ -1,5 +1,5 @@
 -- What one turn of `next` does to an intake.
-use Rattle.std.specs.Prelude.{◌≡◌, ◌⊎◌, ℕ, ◌+◌, List, ◌++◌, length, Option, Some, None, Result, Ok, Err}
+use Rattle.std.specs.Prelude.{◌≡◌, ℕ, ◌+◌, List, ◌++◌, length, Option, Some, Result, Ok, Err}
 use Rattle.rpc_calls.specs.declared.intake_fault.IntakeFault.{IntakeFault}
 use Rattle.rpc_calls.specs.declared.intake_fault.IntakeFault.TheVariants as faults
 use Rattle.rpc_calls.specs.declared.item.Item.{Item}

@@ -48,7 +48,13 @@ pub(crate) fn first_cut(bytes: &[u8]) -> Cut
 }
 
 /// Takes a whole frame in. After a fault the unfinished call is as it was.
-pub(crate) fn take_frame(alloc: Global, side: Side, frame: &[u8], unfinished: &mut Option<Call>, place: u64) -> Result<Option<Item>, IntakeFault>
+pub(crate) fn take_frame(
+    alloc: Global,
+    side: Side,
+    frame: &[u8],
+    unfinished: &mut Option<Call>,
+    place: u64,
+) -> Result<Option<Item>, IntakeFault>
     requires { 16 ≤ length frame.now }
     ensures { FrameDoes result side place unfinished.old unfinished.new frame.now }
 {
@@ -117,20 +123,27 @@ fn call_id_in(frame: &[u8]) -> u32
 
 /// Takes in what a frame stands for.
 #[tactic(auto, unfolding(crate::specs::Assembly::taken))]
-fn take_part(side: Side, part: Item, unfinished: &mut Option<Call>, place: u64) -> Result<Option<Item>, IntakeFault>
+fn take_part(
+    side: Side,
+    part: Item,
+    unfinished: &mut Option<Call>,
+    place: u64,
+) -> Result<Option<Item>, IntakeFault>
     ensures { Does result (taken side place unfinished.old part) unfinished.old unfinished.new }
 {
     match (side, part) {
         (
             Side::Server,
-            Item::Single(Pdu::Request {
-                head,
-                alloc_hint: _,
-                context,
-                opnum,
-                object: _,
-                stub,
-            }),
+            Item::Single(
+                Pdu::Request {
+                    head,
+                    alloc_hint: _,
+                    context,
+                    opnum,
+                    object: _,
+                    stub,
+                },
+            ),
         ) => {
             let fragment = Call {
                 context,
@@ -143,13 +156,15 @@ fn take_part(side: Side, part: Item, unfinished: &mut Option<Call>, place: u64) 
         }
         (
             Side::Client,
-            Item::Single(Pdu::Response {
-                head,
-                alloc_hint: _,
-                context,
-                cancels: _,
-                stub,
-            }),
+            Item::Single(
+                Pdu::Response {
+                    head,
+                    alloc_hint: _,
+                    context,
+                    cancels: _,
+                    stub,
+                },
+            ),
         ) => {
             let fragment = Call {
                 context,
@@ -183,7 +198,12 @@ fn give_up(call_id: u32, unfinished: &mut Option<Call>)
 
 /// Takes in a fragment of a call, whose own stub stands in `fragment`.
 #[tactic(auto, unfolding(crate::specs::Assembly::joined))]
-fn join(fragment: Call, head: Head, unfinished: &mut Option<Call>, place: u64) -> Result<Option<Item>, IntakeFault>
+fn join(
+    fragment: Call,
+    head: Head,
+    unfinished: &mut Option<Call>,
+    place: u64,
+) -> Result<Option<Item>, IntakeFault>
     ensures { Does result (joined place unfinished.old fragment head.flags) unfinished.old unfinished.new }
 {
     let last = head.has(Head::LAST_FRAGMENT);
@@ -195,7 +215,12 @@ fn join(fragment: Call, head: Head, unfinished: &mut Option<Call>, place: u64) -
 }
 
 /// Starts a call with its first fragment.
-fn start(fragment: Call, last: bool, unfinished: &mut Option<Call>, place: u64) -> Result<Option<Item>, IntakeFault>
+fn start(
+    fragment: Call,
+    last: bool,
+    unfinished: &mut Option<Call>,
+    place: u64,
+) -> Result<Option<Item>, IntakeFault>
     ensures { Does result (ended place last (extended unfinished.old fragment true)) unfinished.old unfinished.new }
 {
     if unfinished.is_some() {
@@ -212,7 +237,12 @@ fn start(fragment: Call, last: bool, unfinished: &mut Option<Call>, place: u64) 
 }
 
 /// Goes on with the unfinished call.
-fn go_on(fragment: Call, last: bool, unfinished: &mut Option<Call>, place: u64) -> Result<Option<Item>, IntakeFault>
+fn go_on(
+    fragment: Call,
+    last: bool,
+    unfinished: &mut Option<Call>,
+    place: u64,
+) -> Result<Option<Item>, IntakeFault>
     ensures { Does result (ended place last (extended unfinished.old fragment false)) unfinished.old unfinished.new }
 {
     let Some(call) = unfinished else {

@@ -46,13 +46,13 @@ impl Model for Intake {
     ghost Value = { Kept };
 
     ghost view = { λ intake. record {
-        side = intake.side;
-        rest = intake.rest.items;
-        left = intake.left;
-        place = intake.place;
-        fault = intake.fault;
-        unprocessed = intake.unprocessed;
-        unfinished = intake.unfinished
+      side = intake.side;
+      rest = intake.rest.items;
+      left = intake.left;
+      place = intake.place;
+      fault = intake.fault;
+      unprocessed = intake.unprocessed;
+      unfinished = intake.unfinished;
     } };
 
     ghost invariant = { λ intake.

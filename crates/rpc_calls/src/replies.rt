@@ -14,7 +14,13 @@ const FRONT_LENGTH: usize = 24;
 const ALIGNMENT: usize = 8;
 
 /// The responses that hand a call's output on, none longer than `max_xmit` bytes.
-pub fn cut_reply(alloc: Global, call_id: u32, context: u16, max_xmit: u16, stub: &[u8]) -> Result<Vec<Pdu>, AllocError>
+pub fn cut_reply(
+    alloc: Global,
+    call_id: u32,
+    context: u16,
+    max_xmit: u16,
+    stub: &[u8],
+) -> Result<Vec<Pdu>, AllocError>
     requires least { 1432 ≤ max_xmit }
     requires greatest { max_xmit ≤ 5840 }
     requires size { length stub.now < 2 ^ 32 }
@@ -46,7 +52,14 @@ pub fn cut_reply(alloc: Global, call_id: u32, context: u16, max_xmit: u16, stub:
 }
 
 /// One fragment of a reply.
-fn response(alloc: Global, call_id: u32, context: u16, flags: u8, alloc_hint: u32, stub: &[u8]) -> Result<Pdu, AllocError>
+fn response(
+    alloc: Global,
+    call_id: u32,
+    context: u16,
+    flags: u8,
+    alloc_hint: u32,
+    stub: &[u8],
+) -> Result<Pdu, AllocError>
     ensures { IfOk result (λ pdu. pdu ≡ response_piece call_id context flags alloc_hint stub.now) }
 {
     Ok(Pdu::Response {

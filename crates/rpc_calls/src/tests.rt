@@ -1,11 +1,10 @@
-ghost use Rattle.std.specs.Prelude.{◌≡◌, ◌≤◌};
+ghost use Rattle.std.specs.Prelude.{◌≡◌, ◌<◌, ◌≤◌, ◌^◌, All};
+ghost use Rattle.rpc_pdu.specs.Encoding.{CanSpell};
 ghost use Rattle.rpc_calls.specs.Intakes.{stream_length};
 
 use super::*;
-use rpc_pdu::{Head, Pdu, PduFault, encode};
-use std::alloc::Global;
+use rpc_pdu::{Pdu, PduFault, encode};
 use std::test::*;
-use wire_fields::{Endian, Octets};
 
 /// A bind without contexts, call 1; a request in three fragments, call 2, context 0, operation 7, with
 /// a bind of a version that isn't supported (big-endian, call 3) and a cancel of another call inside
@@ -63,7 +62,7 @@ fn describe(item: &Item, to: &mut String) -> Result<(), Fail> {
 fn drain(intake: &mut Intake, to: &mut String) -> Result<bool, Fail>
     ensures { stream_length intake.new ≡ stream_length intake.old }
 {
-    for _ in 0..20 {
+    'items: for _ in 0..20 {
         match intake.next() {
             Ok(Some(item)) => describe(&item, to)?,
             Ok(None) => return Ok(true),
@@ -83,7 +82,7 @@ fn items(rt: &HostRuntime, side: Side, stream: &[u8], piece: usize) -> Result<St
     let mut intake = Intake::new(rt.alloc(), side);
     let mut text = String::new(rt.alloc());
     let mut place = 0;
-    while place < stream.len() {
+    'pieces: while place < stream.len() {
         let end = stream.len().min(place.saturating_add(piece));
         intake.feed(&stream[place..end])?;
         if !drain(&mut intake, &mut text)? {
@@ -104,14 +103,107 @@ fn items_are_those_of_the_stream_however_it_is_cut(rt: HostRuntime) -> Result<()
             STREAM.as_slice(),
             "Bind 1\nrefused bind 3: 4\nCoCancel 5\ncall 2 of 7, Little: 5\ncall 6 of 1, Little: 1\n9 left, 0 of a stub\n",
         ),
-        (&STREAM[..123], "Bind 1\nrefused bind 3: 4\nCoCancel 5\n0 left, 3 of a stub\n"),
+        (
+            &STREAM[..123],
+            "Bind 1\nrefused bind 3: 4\nCoCancel 5\n0 left, 3 of a stub\n",
+        ),
         (INTERLEAVED.as_slice(), "Interleaved { place: 27 }\n"),
-        (FIFTEEN.as_slice(), "CoCancel 5\nPdu { place: 16, fault: BadLength }\n"),
+        (
+            FIFTEEN.as_slice(),
+            "CoCancel 5\nPdu { place: 16, fault: BadLength }\n",
+        ),
     ];
     for (stream, want) in table {
         for piece in [1, 7, 200] {
-            assert_eq!(rt; items(&rt, Side::Server, stream, piece)?.as_str(), want, "in pieces of {piece}");
+            assert_eq!(rt;
+                items(&rt, Side::Server, stream, piece)?.as_str(),
+                want,
+                "in pieces of {piece}"
+            );
         }
+    }
+    Ok(())
+}
+
+/// A fragment of a request with call id 2, operation 7 and a stub of zeros.
+fn fragment(to: &mut Vec<u8>, flags: u8, stub: u16) -> Result<(), Fail> {
+    let [low, high] = stub.saturating_add(24).to_le_bytes();
+    to.extend_from_slice(&[5, 0, 0, flags, 0x10, 0, 0, 0, low, high, 0, 0])?;
+    to.extend_from_slice(&[2, 0, 0, 0, 0, 0, 0, 0, 0, 0, 7, 0])?;
+    to.resize(to.len().saturating_add(stub as usize), 0)?;
+    Ok(())
+}
+
+#[test]
+fn a_stub_has_131072_bytes_at_most(rt: HostRuntime) -> Result<(), Fail> {
+    for (last, want) in [
+        (50, "call 2 of 7, Little: 131072\n0 left, 0 of a stub\n"),
+        (51, "StubTooLong { place: 131070 }\n"),
+    ] {
+        let mut stream = Vec::new(rt.alloc());
+        fragment(&mut stream, 1, 65_511)?;
+        fragment(&mut stream, 0, 65_511)?;
+        fragment(&mut stream, 2, last)?;
+        for piece in [10_000, 200_000] {
+            assert_eq!(rt; items(&rt, Side::Server, &stream, piece)?.as_str(), want);
+        }
+    }
+    Ok(())
+}
+
+/// Whether so many zeros are taken, the fault that they have, told twice, and how many bytes it leaves.
+fn zeros(rt: &HostRuntime, count: usize) -> Result<(bool, [Option<IntakeFault>; 2], usize), Fail>
+    requires { count < 2 ^ 32 }
+{
+    let bytes = vec![in rt.alloc(); 0; count]?;
+    let mut intake = Intake::new(rt.alloc(), Side::Client);
+    let taken = intake.feed(&bytes).is_ok();
+    let faults = [intake.next().err(), intake.next().err()];
+    Ok((taken, faults, intake.unprocessed()))
+}
+
+#[test]
+fn a_backlog_is_refused_and_a_fault_stands(rt: HostRuntime) -> Result<(), Fail> {
+    let short = Some(IntakeFault::Pdu {
+        place: 0,
+        fault: PduFault::BadLength,
+    });
+    assert_eq!(rt; zeros(&rt, 262_144)?, (true, [short, short], 262_144));
+    assert_eq!(rt; zeros(&rt, 262_145)?, (false, [None, None], 0));
+    Ok(())
+}
+
+/// The encodings of some PDUs, one after the other.
+fn encoded(rt: &HostRuntime, pdus: &[Pdu]) -> Result<Vec<u8>, Fail>
+    requires { All CanSpell pdus.now }
+{
+    let mut bytes = Vec::new(rt.alloc());
+    for pdu in pdus {
+        bytes.extend_from_slice(&encode(rt.alloc(), pdu)?)?;
+    }
+    Ok(bytes)
+}
+
+#[test]
+fn a_reply_is_cut_and_joined(rt: HostRuntime) -> Result<(), Fail> {
+    for (length, frames, want) in [
+        (0_u16, 24, "call 9 of 0, Little: 0\n0 left, 0 of a stub\n"),
+        (
+            5816,
+            5840,
+            "call 9 of 0, Little: 5816\n0 left, 0 of a stub\n",
+        ),
+        (
+            5817,
+            5865,
+            "call 9 of 0, Little: 5817\n0 left, 0 of a stub\n",
+        ),
+    ] {
+        let stub = vec![in rt.alloc(); 7; length as usize]?;
+        let pdus = cut_reply(rt.alloc(), 9, 3, 5840, &stub)?;
+        let stream = encoded(&rt, &pdus)?;
+        assert_eq!(rt; stream.len(), frames);
+        assert_eq!(rt; items(&rt, Side::Client, &stream, 1000)?.as_str(), want);
     }
     Ok(())
 }

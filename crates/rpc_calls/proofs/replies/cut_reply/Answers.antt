@@ -1,9 +1,8 @@
-use Rattle.std.proofs.Common.{◌+◌, ◌-◌, ◌≡◌, ◌≤◌, ◌<◌, List, arith, drop, length, length-drop, refl, take, subst}
+use Rattle.std.proofs.Common.{◌-◌, ◌≤◌, ◌<◌, arith, drop, length, length-drop, refl}
 use Rattle.std.proofs.Math.Nat.{div-mul-le_self}
 use Rattle.std.proofs.lemmas.List.{take_rest}
-use Rattle.rpc_pdu.specs.declared.pdu.Pdu.{Pdu}
-use Rattle.rpc_calls.specs.Cutting.{CutInto, response_piece}
-use Rattle.rpc_calls.proofs.CuttingLaws.{Completes, last_piece, next_piece}
+use Rattle.rpc_calls.specs.Cutting.{response_piece}
+use Rattle.rpc_calls.proofs.CuttingLaws.{last_piece, next_piece}
 use Rattle.rpc_calls.proofs.ReplyLaws.{all_spell}
 use Rattle.rpc_calls.proofs.replies.cut_reply.Goals as goal
 

@@ -1,4 +1,3 @@
-use Rattle.std.proofs.Common.{◌≡◌}
 use Rattle.rpc_calls.proofs.HoldingLaws.{fed_holds}
 use Rattle.rpc_calls.proofs.intake.Intake.feed.Goals as goal
 

@@ -1,6 +1,3 @@
-use Rattle.std.proofs.Common.{◌≡◌, ap}
-use Rattle.std.specs.Prelude.{Option}
-use Rattle.rpc_calls.specs.Intakes.{Kept, LastsIfAny}
 use Rattle.rpc_calls.specs.contracts.intake.Intake.{the_view}
 use Rattle.rpc_calls.proofs.NextLaws.{ends_waiting, ends_with_fault, ends_with_item, gives_again, goes_on_turning, kept_is_plain, standing_is_plain}
 use Rattle.rpc_calls.proofs.intake.Intake.next.Goals as goal

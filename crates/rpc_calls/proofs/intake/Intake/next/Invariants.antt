@@ -1,5 +1,4 @@
-use Rattle.std.proofs.Common.{◌≡◌, length}
-use Rattle.rpc_calls.specs.Intakes.{Stays, no_fault}
+use Rattle.std.proofs.Common.{length}
 use Rattle.rpc_calls.proofs.NextLaws.{GoneOn}
 use Rattle.rpc_calls.proofs.intake.Intake.next.Given as goal
 
