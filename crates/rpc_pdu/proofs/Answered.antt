@@ -1,5 +1,5 @@
 -- What a server answers has an encoding: the sizes are shown here, once for all callers.
-use Rattle.std.proofs.Common.{◌≡◌, ℕ, ◌+◌, ◌*◌, ◌<◌, ◌≤◌, List, [], ◌∷◌, ◌++◌, length, replicate, Option, Some, None, refl, sym, ap, ◌∙◌, arith, length-append, false}
+use Rattle.std.proofs.Common.{◌≡◌, ℕ, ◌+◌, ◌*◌, ◌<◌, ◌≤◌, List, [], ◌∷◌, ◌++◌, length, replicate, Option, Some, None, refl, ap, ◌∙◌, arith, length-append, false}
 use Rattle.std.specs.Prelude.{IsTrue, is_some}
 use Rattle.std.specs.List.{flat_map}
 use Rattle.std.proofs.lemmas.Bool.Decides.{nat_tests}
@@ -11,7 +11,6 @@ use Rattle.wire_fields.specs.Reading.{gap}
 use Rattle.wire_fields.proofs.NumberLaws.{length-num}
 use Rattle.rpc_pdu.specs.declared.head.Head.{Head}
 use Rattle.rpc_pdu.specs.declared.pdu.Pdu.TheVariants.{Request, Response, Fault, BindAck, BindNak, AlterContextResp}
-use Rattle.rpc_pdu.specs.declared.syntax.Syntax.{Syntax}
 use Rattle.rpc_pdu.specs.declared.verdict.Verdict.{Verdict}
 use Rattle.rpc_pdu.specs.Encoding.{CanSpell, bind_ack_text, bind_nak_text, fault_text, object_text, request_text, response_text, syntax_text, verdict_text, version_text}
 use Rattle.rpc_pdu.specs.Flags.{has_flag}

@@ -1,25 +1,25 @@
 -- Bodies: what is read is spelled so, and what is spelled so is read.
-use Rattle.std.proofs.Common.{◌≡◌, ℕ, ◌+◌, ◌^◌, ◌<◌, List, [], ◌++◌, length, Option, Some, None, refl, sym, ap, ◌∙◌, subst, append_assoc, arith, length-append}
+use Rattle.std.proofs.Common.{◌≡◌, ℕ, ◌+◌, ◌^◌, ◌<◌, List, [], ◌++◌, length, Option, Some, refl, sym, ap, ◌∙◌, subst}
 use Rattle.std.proofs.lemmas.List.{append-nil}
 use Rattle.wire_fields.specs.declared.endian.Endian.{Endian}
 use Rattle.wire_fields.specs.Numbers.{IsBytes, num}
-use Rattle.wire_fields.specs.Reading.{Reading, ◌>>=◌, bytes_at, number_at, times}
+use Rattle.wire_fields.specs.Reading.{Reading, times}
 use Rattle.wire_fields.proofs.FieldLaws.{at, some_is, bytes_read, number_read}
 use Rattle.wire_fields.proofs.ListLaws.{list_read}
 use Rattle.rpc_pdu.specs.declared.bodies.BindAckBody.{BindAckBody}
 use Rattle.rpc_pdu.specs.declared.bodies.BindBody.{BindBody}
 use Rattle.rpc_pdu.specs.declared.head.Head.{Head}
 use Rattle.rpc_pdu.specs.declared.pdu.Pdu.{Pdu}
-use Rattle.rpc_pdu.specs.declared.pdu.Pdu.TheVariants.{Request, Response, Fault, Bind, BindAck, BindNak, AlterContext, AlterContextResp, Shutdown, CoCancel, Orphaned}
+use Rattle.rpc_pdu.specs.declared.pdu.Pdu.TheVariants.{Request, Response, Fault, BindNak}
 use Rattle.rpc_pdu.specs.declared.pdu_type.PduType.{PduType}
 use Rattle.rpc_pdu.specs.declared.pdu_type.PduType.TheVariants as types
 use Rattle.rpc_pdu.specs.declared.proposal.Proposal.{Proposal}
 use Rattle.rpc_pdu.specs.declared.verdict.Verdict.{Verdict}
 use Rattle.rpc_pdu.specs.Grammar.{IsBindAckBody, IsBindBody, IsBody, IsObject, IsProposal, IsVerdict, IsVersion}
 use Rattle.rpc_pdu.specs.PduTypes.{head_in, type_of}
-use Rattle.rpc_pdu.specs.Reading.{alone, bind_ack_at, bind_at, bind_nak_at, body_at, fault_at, object_at, padding_behind, proposal_at, request_at, response_at, rest_at, verdict_at, version_at}
+use Rattle.rpc_pdu.specs.Reading.{bind_ack_at, bind_at, bind_nak_at, fault_at, object_at, padding_behind, proposal_at, request_at, response_at, verdict_at, version_at}
 use Rattle.rpc_pdu.proofs.PartLaws.{alone_some, object_found, object_read, proposal_found, proposal_read, rest_is, verdict_found, verdict_read, version_found, version_read}
-use Rattle.rpc_pdu.proofs.Steps.{Step, bytes_then, joined, list_then, number_then, run_long, part_then, still_below}
+use Rattle.rpc_pdu.proofs.Steps.{bytes_then, joined, list_then, number_then, run_long, part_then, still_below}
 
 -- The body is that of a PDU of this type and head.
 pub record IsMade (kind : PduType) (head : Head) (body : List ℕ) (pdu : Pdu) : Type 0 where

@@ -1,13 +1,14 @@
 -- The canonical encoding of a PDU spells it, in little-endian order.
-use Rattle.std.proofs.Common.{◌≡◌, ℕ, ◌+◌, ◌^◌, ◌<◌, ◌≤◌, List, [], ◌∷◌, ◌++◌, length, drop, replicate, Option, Some, None, refl, sym, ap, ◌∙◌, subst, append_assoc, arith, length-append}
-use Rattle.std.specs.Prelude.{IfSome, is_some, IsTrue}
+use Rattle.std.proofs.Common.{◌≡◌, ℕ, ◌+◌, ◌^◌, ◌<◌, ◌≤◌, List, [], ◌∷◌, ◌++◌, length, drop, replicate, Option, Some, None, Result, Ok, Err, refl, sym, ap, ◌∙◌, subst, append_assoc, arith, length-append}
+use Rattle.std.specs.Prelude.{IfOk, IfSome, IsTrue, OnOk, is_some}
+use Rattle.std.specs.Global.{Vec}
+use Rattle.std.specs.declared.alloc.AllocError.{AllocError}
 use Rattle.std.specs.List.{flat_map, AllByRecursion}
 use Rattle.std.proofs.lemmas.List.{append-nil, drop_at, length-replicate}
 use Rattle.std.proofs.lemmas.List.Concat.{flat_map-cons}
 use Rattle.wire_fields.specs.declared.endian.Endian.TheVariants.{Little}
 use Rattle.wire_fields.specs.Lists.{IsList}
-use Rattle.wire_fields.specs.Numbers.{num, uuid_text}
-use Rattle.wire_fields.specs.Reading.{number_in}
+use Rattle.wire_fields.specs.Numbers.{num}
 use Rattle.wire_fields.proofs.FieldLaws.{field_at}
 use Rattle.wire_fields.proofs.NumberLaws.{length-num}
 use Rattle.rpc_pdu.specs.declared.head.Head.{Head}
@@ -288,3 +289,16 @@ encoding_spells p can range =
           (subst (λ (h : Head). IsHeader (frame_text kind head body) kind h) (sym (head_in_little p)) framed);
       body = subst P (sym (frame_body kind head body)) (body_spelled p can.object can.counts range.1);
     }
+
+same_frame : (j k : PduType) (g h : Head) (a b : List ℕ) → j ≡ k → g ≡ h → a ≡ b → frame_text j g a ≡ frame_text k h b
+same_frame j k g h a b kinds heads bodies = cc
+
+-- What encode ensures: it framed the body.
+pub framed_spells : (p : Pdu) (r : Result (Vec ℕ) AllocError) (ptype : PduType) (head : Head) (body : List ℕ) → ptype ≡ type_of p → head ≡ head_in p → body ≡ body_text p → CanSpell p → BodyInRange p
+    → OnOk r (HeadInRange head) → IfOk r (λ bytes. bytes.items ≡ frame_text ptype head body) → IfOk r (λ bytes. IsPdu bytes.items (in_little p))
+unfolding spelling
+framed_spells p (Ok bytes) ptype head body type-is head-is body-is can range head-range text =
+    let whole : bytes.items ≡ frame_text (type_of p) (head_in p) (body_text p) = text ∙ same_frame ptype (type_of p) head (head_in p) body (body_text p) type-is head-is body-is in
+    let spelled = encoding_spells p can (subst HeadInRange head-is head-range, range) in
+    subst (λ (t : List ℕ). IsPdu t (in_little p)) (sym whole) spelled
+framed_spells p (Err e) ptype head body type-is head-is body-is can range head-range text = tt

@@ -1,12 +1,12 @@
 -- Parts of bodies: what is read is spelled so, and what is spelled so is read.
-use Rattle.std.proofs.Common.{◌≡◌, ℕ, ◌+◌, ◌^◌, ◌<◌, ◌≤◌, Bool, true, false, cond, eqb, ltb, List, [], ◌++◌, length, take, drop, Option, Some, None, refl, sym, ap, ◌∙◌, subst, append_assoc, arith, length-append}
+use Rattle.std.proofs.Common.{◌≡◌, ℕ, ◌+◌, ◌^◌, ◌<◌, Bool, true, false, cond, eqb, ltb, List, [], ◌++◌, length, Option, Some, None, refl, sym, ap, ◌∙◌, subst, append_assoc, arith, length-append}
 use Rattle.std.proofs.lemmas.Bool.{eqb-true, le-ltb}
 use Rattle.std.proofs.lemmas.List.{drop_all, nil_from_length, take_all}
 use Rattle.wire_fields.specs.declared.endian.Endian.{Endian}
 use Rattle.wire_fields.specs.Numbers.{IsBytes, num, uuid_text}
-use Rattle.wire_fields.specs.Reading.{Reading, ◌>>=◌, bytes_at, number_at, times, uuid_at}
+use Rattle.wire_fields.specs.Reading.{Reading, ◌>>=◌, uuid_at}
 use Rattle.wire_fields.proofs.NumberLaws.{length-num}
-use Rattle.wire_fields.proofs.FieldLaws.{Took, at, bind_some, some_is, took_none, took_then, bytes_read, number_read, uuid_read, length-uuid_text}
+use Rattle.wire_fields.proofs.FieldLaws.{Took, at, some_is, took_none, took_then, bytes_read, number_read, uuid_read, length-uuid_text}
 use Rattle.wire_fields.proofs.ListLaws.{FoundBy, ReadBy, list_read}
 use Rattle.rpc_pdu.specs.declared.proposal.Proposal.{Proposal}
 use Rattle.rpc_pdu.specs.declared.syntax.Syntax.{Syntax}
@@ -14,7 +14,7 @@ use Rattle.rpc_pdu.specs.declared.verdict.Verdict.{Verdict}
 use Rattle.rpc_pdu.specs.Flags.{has_flag}
 use Rattle.rpc_pdu.specs.Grammar.{IsObject, IsProposal, IsSyntax, IsVerdict, IsVersion}
 use Rattle.rpc_pdu.specs.Reading.{alone, object_at, proposal_at, rest_at, syntax_at, verdict_at, version_at}
-use Rattle.rpc_pdu.proofs.Steps.{Step, bytes_then, list_then, number_then, pair, run_long, part_then, still_below, uuid_then}
+use Rattle.rpc_pdu.proofs.Steps.{bytes_then, list_then, number_then, pair, run_long, part_then, still_below, uuid_then}
 
 -- ---- syntaxes
 

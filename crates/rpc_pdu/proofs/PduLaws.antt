@@ -1,12 +1,10 @@
 -- Bytes are read as the PDU that they spell, and as nothing where they spell none.
-use Rattle.std.proofs.Common.{◌≡◌, ℕ, List, slice_index, drop, Option, Some, None, Result, Ok, Err, refl, sym, ap, ◌∙◌, subst, inl, inr}
+use Rattle.std.proofs.Common.{◌≡◌, ℕ, List, slice_index, drop, Option, Some, None, Result, Ok, Err, refl, sym, ◌∙◌, subst, inl, inr}
 use Rattle.std.specs.Prelude.{IfOk, IfErr}
 use Rattle.wire_fields.specs.Numbers.{IsBytes}
-use Rattle.wire_fields.specs.Reading.{Reading, ◌>>=◌}
+use Rattle.wire_fields.specs.Reading.{Reading}
 use Rattle.wire_fields.proofs.FieldLaws.{at, bind_some, some_is}
 use Rattle.wire_fields.proofs.NumberLaws.{IsBytes-drop}
-use Rattle.rpc_pdu.specs.declared.bodies.BindAckBody.{BindAckBody}
-use Rattle.rpc_pdu.specs.declared.bodies.BindBody.{BindBody}
 use Rattle.rpc_pdu.specs.declared.head.Head.{Head}
 use Rattle.rpc_pdu.specs.declared.pdu.Pdu.{Pdu}
 use Rattle.rpc_pdu.specs.declared.pdu.Pdu.TheVariants.{Request, Response, Fault, Bind, BindAck, BindNak, AlterContext, AlterContextResp, Shutdown, CoCancel, Orphaned}
@@ -17,7 +15,7 @@ use Rattle.rpc_pdu.specs.declared.pdu_type.PduType.TheVariants as types
 use Rattle.rpc_pdu.specs.Grammar.{IsBody, IsPdu, MayFail, PduBad}
 use Rattle.rpc_pdu.specs.Header.{IsHeader, head_at, header_fault}
 use Rattle.rpc_pdu.specs.PduTypes.{head_in, type_of, type_with}
-use Rattle.rpc_pdu.specs.Reading.{Decodes, alone, behind_header, bind_ack_at, bind_at, body_at, body_of, or_short, pdu_at}
+use Rattle.rpc_pdu.specs.Reading.{Decodes, behind_header, bind_ack_at, bind_at, body_at, body_of, or_short, pdu_at}
 use Rattle.rpc_pdu.proofs.BodyLaws.{IsMade, bind_ack_found, bind_ack_read, bind_found, bind_nak_found, bind_nak_read, bind_read, fault_found, fault_read, request_found, request_read, response_found, response_read}
 use Rattle.rpc_pdu.proofs.HeaderLaws.{head_read, header_found, header_passes, type_is_known}
 use Rattle.rpc_pdu.proofs.PartLaws.{alone_some}

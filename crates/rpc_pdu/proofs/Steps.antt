@@ -1,10 +1,10 @@
 -- One field after the other: what a step of a reader took, and how codecs of fields are stated.
-use Rattle.std.proofs.Common.{◌≡◌, ℕ, ◌+◌, ◌^◌, ◌<◌, List, [], ◌++◌, length, Option, Some, None, refl, sym, ap, ◌∙◌, subst, arith}
+use Rattle.std.proofs.Common.{◌≡◌, ℕ, ◌^◌, ◌<◌, List, ◌++◌, length, Option, Some, refl, ap, ◌∙◌, subst, arith}
 use Rattle.wire_fields.specs.declared.endian.Endian.{Endian}
 use Rattle.wire_fields.specs.Lists.{IsList}
 use Rattle.wire_fields.specs.Numbers.{IsBytes, num, uuid_text}
 use Rattle.wire_fields.specs.Reading.{Reading, ◌>>=◌, bytes_at, number_at, times, uuid_at}
-use Rattle.wire_fields.proofs.FieldLaws.{Took, at, bind_some, bytes_found, number_found, uuid_found}
+use Rattle.wire_fields.proofs.FieldLaws.{Took, bind_some, bytes_found, number_found, uuid_found}
 use Rattle.wire_fields.proofs.ListLaws.{FoundBy, list_found}
 
 -- What comes of a step is handed on to `then`, where it is a variable: a `let` would be written out at each use.

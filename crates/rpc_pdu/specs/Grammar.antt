@@ -1,5 +1,5 @@
 -- Which bytes spell which PDU (C706 12.6.4). Reserved bytes and padding may be any.
-use Rattle.std.specs.Prelude.{◌≡◌, ℕ, ◌<◌, ◌^◌, ◌⊎◌, true, false, List, [], ◌++◌, length, drop, Option, Some, None, Result, Ok, Err}
+use Rattle.std.specs.Prelude.{◌≡◌, ℕ, ◌<◌, ◌^◌, ◌⊎◌, true, false, List, [], ◌++◌, length, drop, Option, Some, None}
 use Rattle.wire_fields.specs.declared.endian.Endian.{Endian}
 use Rattle.wire_fields.specs.Lists.{IsList}
 use Rattle.wire_fields.specs.Numbers.{num, uuid_text}

@@ -1,10 +1,11 @@
 //! A PDU as a fragment's bytes.
 
-ghost use Rattle.std.specs.Prelude.{◌≡◌, ◌+◌, ◌<◌, ◌≤◌, ◌++◌, All, IfOk, length, replicate};
+ghost use Rattle.std.specs.Prelude.{◌≡◌, ◌+◌, ◌<◌, ◌≤◌, ◌++◌, All, IfOk, IfSome, OnOk, length, replicate};
 ghost use Rattle.std.specs.List.{AllByRecursion, flat_map};
 ghost use Rattle.wire_fields.specs.declared.endian.Endian.TheVariants.{Little};
 ghost use Rattle.wire_fields.specs.Written.{Adds};
-ghost use Rattle.rpc_pdu.specs.Encoding.{CanSpell, CountsFit, bind_ack_text, bind_nak_text, bind_text, body_text, fault_text, frame_text, object_text, proposal_text, request_text, response_text, spelling, syntax_text, verdict_text, version_text};
+ghost use Rattle.rpc_pdu.specs.Encoding.{CanSpell, CountsFit, BodyInRange, HeadInRange, ProposalInRange, SyntaxInRange, VerdictInRange, VersionInRange, bind_ack_text, bind_nak_text, bind_text, body_text, fault_text, frame_text, in_little, object_text, proposal_text, request_text, response_text, spelling, syntax_text, verdict_text, version_text};
+ghost use Rattle.rpc_pdu.specs.Grammar.{IsPdu};
 ghost use Rattle.rpc_pdu.specs.Reading.{padding_behind};
 ghost use Rattle.rpc_pdu.specs.Writing.{Appends};
 
@@ -24,7 +25,9 @@ use wire_fields::{Endian, Put};
 #[tactic(auto, unfolding(crate::specs::Encoding::spelling))]
 pub fn encode(alloc: Global, pdu: &Pdu) -> Result<Vec<u8>, AllocError>
     requires { CanSpell pdu.now }
-    ensures { IfOk result (λ bytes. bytes.items ≡ spelling pdu.now) }
+    ensures canonical { IfOk result (λ bytes. bytes.items ≡ spelling pdu.now) }
+    // So `decode` gives the PDU back, in little-endian order.
+    ensures reads_back { IfOk result (λ bytes. IsPdu bytes.items (in_little pdu.now)) }
 {
     let body = body(alloc, pdu)?;
     frame(alloc, pdu.pdu_type(), &pdu.head(), &body)
@@ -33,7 +36,8 @@ pub fn encode(alloc: Global, pdu: &Pdu) -> Result<Vec<u8>, AllocError>
 #[tactic(auto, unfolding(crate::specs::Encoding::frame_text))]
 fn frame(alloc: Global, kind: PduType, head: &Head, body: &[u8]) -> Result<Vec<u8>, AllocError>
     requires { 16 + length body.now ≤ 65535 }
-    ensures { IfOk result (λ bytes. bytes.items ≡ frame_text kind head.now body.now) }
+    ensures text { IfOk result (λ bytes. bytes.items ≡ frame_text kind head.now body.now) }
+    ensures range { OnOk result (HeadInRange head.now) }
 {
     let mut put = Put::new(alloc, Endian::Little);
     let front = [
@@ -56,7 +60,8 @@ fn frame(alloc: Global, kind: PduType, head: &Head, body: &[u8]) -> Result<Vec<u
 
 fn body(alloc: Global, pdu: &Pdu) -> Result<Vec<u8>, AllocError>
     requires { CountsFit pdu.now }
-    ensures { IfOk result (λ bytes. bytes.items ≡ body_text pdu.now) }
+    ensures text { IfOk result (λ bytes. bytes.items ≡ body_text pdu.now) }
+    ensures range { OnOk result (BodyInRange pdu.now) }
 {
     match pdu {
         Pdu::Request {
@@ -147,7 +152,8 @@ fn request(
     object: &Option<Uuid>,
     stub: &[u8],
 ) -> Result<Vec<u8>, AllocError>
-    ensures { IfOk result (λ bytes. bytes.items ≡ request_text alloc_hint context opnum object.now stub.now) }
+    ensures text { IfOk result (λ bytes. bytes.items ≡ request_text alloc_hint context opnum object.now stub.now) }
+    ensures range { OnOk result (IfSome object.now (λ id. length id ≡ 16)) }
 {
     let mut put = Put::new(alloc, Endian::Little);
     put.u32(alloc_hint)?;
@@ -160,11 +166,15 @@ fn request(
 
 fn put_object(put: &mut Put, object: &Option<Uuid>) -> Result<(), AllocError>
     requires { put.old.endian ≡ Little }
-    ensures { Adds result put.old put.new (object_text object.now) }
+    ensures text { Adds result put.old put.new (object_text object.now) }
+    ensures range { IfSome object.now (λ id. length id ≡ 16) }
 {
     match object {
         None => put.bytes(&[]),
-        Some(id) => put.uuid(id),
+        Some(id) => {
+            whole(id.as_bytes());
+            put.uuid(id)
+        }
     }
 }
 
@@ -217,7 +227,8 @@ fn bind(
 ) -> Result<Vec<u8>, AllocError>
     requires count { length proposals.now < 256 }
     requires transfers { AllByRecursion (λ p. length p.transfers < 256) proposals.now }
-    ensures { IfOk result (λ bytes. bytes.items ≡ bind_text max_xmit max_recv group proposals.now) }
+    ensures text { IfOk result (λ bytes. bytes.items ≡ bind_text max_xmit max_recv group proposals.now) }
+    ensures range { OnOk result (AllByRecursion ProposalInRange proposals.now) }
 {
     let mut put = Put::new(alloc, Endian::Little);
     put.u16(max_xmit)?;
@@ -240,7 +251,8 @@ fn bind_ack(
 ) -> Result<Vec<u8>, AllocError>
     requires address { length address.now < 65536 }
     requires count { length verdicts.now < 256 }
-    ensures { IfOk result (λ bytes. bytes.items ≡ bind_ack_text max_xmit max_recv group address.now verdicts.now) }
+    ensures text { IfOk result (λ bytes. bytes.items ≡ bind_ack_text max_xmit max_recv group address.now verdicts.now) }
+    ensures range { OnOk result (AllByRecursion VerdictInRange verdicts.now) }
 {
     let mut put = Put::new(alloc, Endian::Little);
     put.u16(max_xmit)?;
@@ -265,7 +277,8 @@ fn put_padding(put: &mut Put, size: u16) -> Result<(), AllocError>
 #[tactic(auto, unfolding(crate::specs::Encoding::bind_nak_text))]
 fn bind_nak(alloc: Global, reason: u16, versions: &[(u8, u8)]) -> Result<Vec<u8>, AllocError>
     requires { length versions.now < 256 }
-    ensures { IfOk result (λ bytes. bytes.items ≡ bind_nak_text reason versions.now) }
+    ensures text { IfOk result (λ bytes. bytes.items ≡ bind_nak_text reason versions.now) }
+    ensures range { OnOk result (AllByRecursion VersionInRange versions.now) }
 {
     let mut put = Put::new(alloc, Endian::Little);
     put.u16(reason)?;
@@ -277,7 +290,8 @@ fn bind_nak(alloc: Global, reason: u16, versions: &[(u8, u8)]) -> Result<Vec<u8>
 fn put_proposals(put: &mut Put, proposals: &[Proposal]) -> Result<(), AllocError>
     requires endian { put.old.endian ≡ Little }
     requires transfers { AllByRecursion (λ p. length p.transfers < 256) proposals.now }
-    ensures { Appends result put.old put.new (flat_map proposal_text proposals.now) }
+    ensures text { Appends result put.old put.new (flat_map proposal_text proposals.now) }
+    ensures range { OnOk result (AllByRecursion ProposalInRange proposals.now) }
 {
     for proposal in proposals {
         put_proposal(put, proposal)?;
@@ -289,7 +303,8 @@ fn put_proposals(put: &mut Put, proposals: &[Proposal]) -> Result<(), AllocError
 fn put_proposal(put: &mut Put, proposal: &Proposal) -> Result<(), AllocError>
     requires endian { put.old.endian ≡ Little }
     requires count { length proposal.now.transfers < 256 }
-    ensures { Appends result put.old put.new (proposal_text proposal.now) }
+    ensures text { Appends result put.old put.new (proposal_text proposal.now) }
+    ensures range { OnOk result (ProposalInRange proposal.now) }
 {
     let transfers = proposal.transfers.as_slice();
     put.u16(proposal.id)?;
@@ -301,7 +316,8 @@ fn put_proposal(put: &mut Put, proposal: &Proposal) -> Result<(), AllocError>
 
 fn put_syntaxes(put: &mut Put, syntaxes: &[Syntax]) -> Result<(), AllocError>
     requires { put.old.endian ≡ Little }
-    ensures { Appends result put.old put.new (flat_map syntax_text syntaxes.now) }
+    ensures text { Appends result put.old put.new (flat_map syntax_text syntaxes.now) }
+    ensures range { OnOk result (AllByRecursion SyntaxInRange syntaxes.now) }
 {
     for syntax in syntaxes {
         put_syntax(put, syntax)?;
@@ -312,15 +328,23 @@ fn put_syntaxes(put: &mut Put, syntaxes: &[Syntax]) -> Result<(), AllocError>
 #[tactic(auto, unfolding(crate::specs::Encoding::syntax_text))]
 fn put_syntax(put: &mut Put, syntax: &Syntax) -> Result<(), AllocError>
     requires { put.old.endian ≡ Little }
-    ensures { Appends result put.old put.new (syntax_text syntax.now) }
+    ensures text { Appends result put.old put.new (syntax_text syntax.now) }
+    ensures range { OnOk result (SyntaxInRange syntax.now) }
 {
+    whole(syntax.id.as_bytes());
     put.uuid(&syntax.id)?;
     put.u32(syntax.version)
 }
 
+/// The bytes of an identifier are as many as it has, which a clause can't say of its type.
+fn whole(bytes: &[u8; 16])
+    ensures { length bytes.now ≡ 16 }
+{}
+
 fn put_verdicts(put: &mut Put, verdicts: &[Verdict]) -> Result<(), AllocError>
     requires { put.old.endian ≡ Little }
-    ensures { Appends result put.old put.new (flat_map verdict_text verdicts.now) }
+    ensures text { Appends result put.old put.new (flat_map verdict_text verdicts.now) }
+    ensures range { OnOk result (AllByRecursion VerdictInRange verdicts.now) }
 {
     for verdict in verdicts {
         put_verdict(put, verdict)?;
@@ -331,7 +355,8 @@ fn put_verdicts(put: &mut Put, verdicts: &[Verdict]) -> Result<(), AllocError>
 #[tactic(auto, unfolding(crate::specs::Encoding::verdict_text))]
 fn put_verdict(put: &mut Put, verdict: &Verdict) -> Result<(), AllocError>
     requires { put.old.endian ≡ Little }
-    ensures { Appends result put.old put.new (verdict_text verdict.now) }
+    ensures text { Appends result put.old put.new (verdict_text verdict.now) }
+    ensures range { OnOk result (VerdictInRange verdict.now) }
 {
     put.u16(verdict.result)?;
     put.u16(verdict.reason)?;
@@ -340,7 +365,8 @@ fn put_verdict(put: &mut Put, verdict: &Verdict) -> Result<(), AllocError>
 
 fn put_versions(put: &mut Put, versions: &[(u8, u8)]) -> Result<(), AllocError>
     requires { put.old.endian ≡ Little }
-    ensures { Appends result put.old put.new (flat_map version_text versions.now) }
+    ensures text { Appends result put.old put.new (flat_map version_text versions.now) }
+    ensures range { OnOk result (AllByRecursion VersionInRange versions.now) }
 {
     for version in versions {
         put_version(put, version)?;
@@ -351,7 +377,8 @@ fn put_versions(put: &mut Put, versions: &[(u8, u8)]) -> Result<(), AllocError>
 #[tactic(auto, unfolding(crate::specs::Encoding::version_text))]
 fn put_version(put: &mut Put, version: &(u8, u8)) -> Result<(), AllocError>
     requires { put.old.endian ≡ Little }
-    ensures { Appends result put.old put.new (version_text version.now) }
+    ensures text { Appends result put.old put.new (version_text version.now) }
+    ensures range { OnOk result (VersionInRange version.now) }
 {
     put.u8(version.0)?;
     put.u8(version.1)
