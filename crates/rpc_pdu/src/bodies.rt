@@ -28,6 +28,44 @@ pub(crate) struct BindBody {
     proposals: Proposals,
 }
 
+impl BindBody {
+    fn into_bind(self, head: Head) -> Pdu
+        ensures { result ≡ Pdu.Bind head self.max_xmit self.max_recv self.group self.proposals }
+    {
+        let BindBody {
+            max_xmit,
+            max_recv,
+            group,
+            proposals,
+        } = self;
+        Pdu::Bind {
+            head,
+            max_xmit,
+            max_recv,
+            group,
+            proposals,
+        }
+    }
+
+    fn into_alter_context(self, head: Head) -> Pdu
+        ensures { result ≡ Pdu.AlterContext head self.max_xmit self.max_recv self.group self.proposals }
+    {
+        let BindBody {
+            max_xmit,
+            max_recv,
+            group,
+            proposals,
+        } = self;
+        Pdu::AlterContext {
+            head,
+            max_xmit,
+            max_recv,
+            group,
+            proposals,
+        }
+    }
+}
+
 /// The body that bind_ack and alter_context_resp have.
 #[derive(Drop)]
 pub(crate) struct BindAckBody {
@@ -36,6 +74,48 @@ pub(crate) struct BindAckBody {
     group: u32,
     address: Octets,
     verdicts: Verdicts,
+}
+
+impl BindAckBody {
+    fn into_bind_ack(self, head: Head) -> Pdu
+        ensures { result ≡ Pdu.BindAck head self.max_xmit self.max_recv self.group self.address self.verdicts }
+    {
+        let BindAckBody {
+            max_xmit,
+            max_recv,
+            group,
+            address,
+            verdicts,
+        } = self;
+        Pdu::BindAck {
+            head,
+            max_xmit,
+            max_recv,
+            group,
+            address,
+            verdicts,
+        }
+    }
+
+    fn into_alter_context_resp(self, head: Head) -> Pdu
+        ensures { result ≡ Pdu.AlterContextResp head self.max_xmit self.max_recv self.group self.address self.verdicts }
+    {
+        let BindAckBody {
+            max_xmit,
+            max_recv,
+            group,
+            address,
+            verdicts,
+        } = self;
+        Pdu::AlterContextResp {
+            head,
+            max_xmit,
+            max_recv,
+            group,
+            address,
+            verdicts,
+        }
+    }
 }
 
 /// A PDU of this type and head, whose body are all of the fields.
@@ -52,71 +132,11 @@ pub(crate) fn body(
         PduType::Request => request(alloc, head, fields),
         PduType::Response => response(alloc, head, fields),
         PduType::Fault => fault(head, fields),
-        PduType::Bind => {
-            let BindBody {
-                max_xmit,
-                max_recv,
-                group,
-                proposals,
-            } = bind(alloc, fields)?;
-            Ok(Pdu::Bind {
-                head,
-                max_xmit,
-                max_recv,
-                group,
-                proposals,
-            })
-        }
-        PduType::BindAck => {
-            let BindAckBody {
-                max_xmit,
-                max_recv,
-                group,
-                address,
-                verdicts,
-            } = bind_ack(alloc, fields)?;
-            Ok(Pdu::BindAck {
-                head,
-                max_xmit,
-                max_recv,
-                group,
-                address,
-                verdicts,
-            })
-        }
+        PduType::Bind => Ok(bind(alloc, fields)?.into_bind(head)),
+        PduType::BindAck => Ok(bind_ack(alloc, fields)?.into_bind_ack(head)),
         PduType::BindNak => bind_nak(alloc, head, fields),
-        PduType::AlterContext => {
-            let BindBody {
-                max_xmit,
-                max_recv,
-                group,
-                proposals,
-            } = bind(alloc, fields)?;
-            Ok(Pdu::AlterContext {
-                head,
-                max_xmit,
-                max_recv,
-                group,
-                proposals,
-            })
-        }
-        PduType::AlterContextResp => {
-            let BindAckBody {
-                max_xmit,
-                max_recv,
-                group,
-                address,
-                verdicts,
-            } = bind_ack(alloc, fields)?;
-            Ok(Pdu::AlterContextResp {
-                head,
-                max_xmit,
-                max_recv,
-                group,
-                address,
-                verdicts,
-            })
-        }
+        PduType::AlterContext => Ok(bind(alloc, fields)?.into_alter_context(head)),
+        PduType::AlterContextResp => Ok(bind_ack(alloc, fields)?.into_alter_context_resp(head)),
         PduType::Shutdown if fields.left() == 0 => Ok(Pdu::Shutdown { head }),
         PduType::CoCancel if fields.left() == 0 => Ok(Pdu::CoCancel { head }),
         PduType::Orphaned if fields.left() == 0 => Ok(Pdu::Orphaned { head }),

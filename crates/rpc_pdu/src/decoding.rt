@@ -12,10 +12,11 @@ use crate::pdu_fault::PduFault;
 use std::alloc::Global;
 use wire_fields::Fields;
 
-/// The PDU that the bytes of one whole fragment are.
+/// The PDU that the bytes of one whole fragment spell. Where they spell none, the first check that
+/// they fail names the fault: those of the header in their order, then the length of the body.
 pub fn decode(alloc: Global, bytes: &[u8]) -> Result<Pdu, PduFault>
     ensures found { IfOk result (λ pdu. IsPdu bytes.now pdu) }
-    // What is spelled so is read, unless memory runs out.
+    // No other PDU is read from these bytes, and it is read unless memory runs out.
     ensures only { (pdu : Pdu) → IsPdu bytes.now pdu → Decodes result (Ok pdu) }
     ensures fault { IfErr result (λ fault. MayFail bytes.now fault) }
 {

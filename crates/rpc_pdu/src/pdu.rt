@@ -30,7 +30,9 @@ pub enum Pdu {
         head: Head,
         alloc_hint: u32,
         context: u16,
+        /// How many requests to cancel the call the server got.
         cancels: u8,
+        /// The results' bytes.
         stub: Octets,
     },
     /// The call failed with this status.
