@@ -1,0 +1,12 @@
+//! The commands of `mscs` over any input and output: [`run`] is the program but for its real streams.
+#![tactic(auto)]
+
+mod answering;
+mod running;
+mod status;
+
+pub use running::run;
+pub use status::Status;
+
+#[cfg(test)]
+mod tests;

@@ -1,0 +1,57 @@
+ghost use Rattle.std.specs.Prelude.{◌≡◌, IfOk, string_bytes};
+ghost use Rattle.clus_cli.specs.Statuses.{number_of, text_of};
+
+use std::alloc::{AllocError, Global};
+
+/// How a run of the program ended.
+#[derive(Clone, Copy, Debug, PartialEq, Eq)]
+pub enum Status {
+    /// The input was read to its end and all was written.
+    Done,
+    /// The words are no command.
+    Usage,
+    /// The input could not be read.
+    ReadFault,
+    /// The output could not be written.
+    WriteFault,
+    /// Memory ran out.
+    NoMemory,
+    /// The input has something at this place that isn't answered yet.
+    NotYet { place: u32 },
+}
+
+impl Status {
+    /// The exit status of the process.
+    pub fn number(&self) -> u8
+        ensures { result ≡ number_of self.now }
+    {
+        match self {
+            Status::Done => 0,
+            Status::Usage => 2,
+            Status::ReadFault => 3,
+            Status::WriteFault => 4,
+            Status::NoMemory => 6,
+            Status::NotYet { .. } => 10,
+        }
+    }
+
+    /// What the user is told, without a line feed.
+    pub fn text(&self, alloc: Global) -> Result<String, AllocError>
+        ensures { IfOk result (λ text. string_bytes text ≡ text_of self.now) }
+    {
+        match self {
+            Status::Done => String::from_str(alloc, ""),
+            Status::Usage => String::from_str(alloc, "usage: mscs session"),
+            Status::ReadFault => String::from_str(alloc, "read fault"),
+            Status::WriteFault => String::from_str(alloc, "write fault"),
+            Status::NoMemory => String::from_str(alloc, "no memory"),
+            Status::NotYet { place } => not_yet(alloc, *place),
+        }
+    }
+}
+
+fn not_yet(alloc: Global, place: u32) -> Result<String, AllocError>
+    ensures { IfOk result (λ text. string_bytes text ≡ text_of (Status.NotYet place)) }
+{
+    format!(in alloc; "not yet: place {place}")
+}

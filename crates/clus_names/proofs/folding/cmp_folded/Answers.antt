@@ -1,0 +1,13 @@
+use Rattle.std.proofs.Common.{rules, ◌≡◌, refl, ap, ◌∙◌}
+use Rattle.std.specs.Ordering.{nat_cmp}
+use Rattle.std.specs.Iterator.Adapters.{map_callee}
+use Rattle.std.proofs.lemmas.Iterator.{YieldsList-from_slice, YieldsList-from_map}
+use Rattle.std.proofs.lemmas.Iterator.Search.{cmp_from_yields_List}
+use Rattle.clus_names.specs.Folding.{folded_unit}
+use Rattle.clus_names.proofs.folding.cmp_folded.Goals as goal
+
+pub returns : goal.returns
+returns c = cmp_from_yields_List (λ x y. y ≡ x) _ nat_cmp _ c.cmp.ensures.ran
+    (YieldsList-from_map _ folded_unit (YieldsList-from_slice c.args.left.now cc) c.map.ensures.closure (λ x r q k. search rules))
+    (λ it e. YieldsList-from_map _ folded_unit (YieldsList-from_slice c.args.right.now cc) (ap (λ s. map_callee s) e ∙ c.map-2.ensures.closure) (λ x r q k. search rules))
+    (λ x y. refl)

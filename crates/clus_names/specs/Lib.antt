@@ -1,0 +1,4 @@
+pub mod Folding
+pub mod Parts
+pub mod Limits
+pub mod Faults

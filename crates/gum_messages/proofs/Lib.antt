@@ -1,0 +1,5 @@
+pub mod Lookup
+pub mod Ascending
+pub mod Placing
+pub mod Beside
+pub mod Branches

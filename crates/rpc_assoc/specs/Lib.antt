@@ -1,0 +1,4 @@
+pub mod Answers
+pub mod Association
+pub mod State
+pub mod Verdicts

@@ -1,0 +1,4 @@
+pub mod Loops
+pub mod Fields
+pub mod ChangeLaws
+pub mod RecordLaws
