@@ -8,7 +8,7 @@ use Rattle.rpc_calls.specs.declared.intake_fault.IntakeFault.{IntakeFault}
 use Rattle.rpc_calls.specs.declared.item.Item.{Item}
 use Rattle.rpc_calls.specs.declared.side.Side.{Side}
 use Rattle.rpc_calls.specs.Intakes.{FaultStands, FeedIs, Holds, Kept, fed, fresh, stream_length}
-use Rattle.rpc_calls.specs.Streams.{FaultAt, Runs}
+use Rattle.rpc_calls.specs.Streams.{FaultAt, Items, Runs}
 use Rattle.rpc_calls.proofs.FrameRuns.{TooShort-append}
 
 -- ---- the beginning
@@ -40,6 +40,12 @@ pub fed_holds : {X : Type 0} (result : Result X FeedFault) (old new : Kept) (pie
     → OnOk result ((stream : List ℕ) (given : List Item) → Holds old stream given → Holds new (stream ++ piece) given)
 fed_holds (Ok x) old new piece (fits, is) = λ stream given holds. subst (λ (k : Kept). Holds k (stream ++ piece) given) (sym is) (holds_fed old stream piece given holds)
 fed_holds (Err fault) old new piece is = tt
+
+-- ---- a fault stands whatever comes behind it
+
+pub fault_stays : (side : Side) (stream more : List ℕ) (given : List Item) (fault : IntakeFault) → Items side stream given (Some fault) → Items side (stream ++ more) given (Some fault)
+fault_stays side stream more given fault (frames, left, rest, reads, stops) =
+    (frames, left, rest ++ more, record { whole = rw (reads.whole, append_assoc) refl; runs = reads.runs }, fault_stands side (length (concat frames)) left rest more fault stops)
 
 -- ---- how long the stream is
 

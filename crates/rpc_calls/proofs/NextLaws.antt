@@ -10,7 +10,7 @@ use Rattle.rpc_calls.specs.declared.item.Item.{Item}
 use Rattle.rpc_calls.specs.declared.side.Side.{Side}
 use Rattle.rpc_calls.specs.Assembly.{stub_length}
 use Rattle.rpc_calls.specs.Frames.{Waits}
-use Rattle.rpc_calls.specs.Intakes.{AtEnd, BehindItem, FaultStands, Holds, IsLasting, Kept, LastsIfAny, NextIs, NoMemoryInside, NumbersAre, Stays, no_fault}
+use Rattle.rpc_calls.specs.Intakes.{AtEnd, BehindItem, FaultStands, Holds, IsLasting, KeepsFault, Kept, LastsIfAny, NextIs, NoMemoryInside, NumbersAre, Stays, no_fault}
 use Rattle.rpc_calls.specs.Streams.{FaultAt, Items, Reads, Runs, StopsBy, put}
 use Rattle.rpc_calls.specs.Turns.{Goes, MayStand, refused, reported}
 use Rattle.rpc_calls.proofs.FrameRuns.{concat_more, runs_more}
@@ -88,6 +88,7 @@ given_fault fault = Err fault
 -- What a call of `next` that ends so owes.
 pub record Ends (result : Result (Option Item) IntakeFault) (old new : Kept) : Type 0 where
   pub gives : NextIs result old new
+  pub keeps : KeepsFault result new
   pub numbers : NumbersAre result old new
   pub stays : Stays old new
 
@@ -112,14 +113,14 @@ Faulty first new fault =
     (stream : List ℕ) (given : List Item) → Holds first stream given
     → (Holds new stream given × Items new.side stream given (Some fault)) × AtEnd new.side stream given (Some fault) new.unprocessed new.unfinished
 
-faulty_ends : (first new : Kept) (fault : IntakeFault) → IsLasting fault → Faulty first new fault → Stays first new → Ends (given_fault fault) first new
-faulty_ends first new faults.Memory lasts all stays = absurd lasts
-faulty_ends first new (faults.Pdu place inner) lasts all stays =
-    record { gives = λ stream given holds. (all stream given holds).0; numbers = λ stream given holds. (all stream given holds).1; stays = stays }
-faulty_ends first new (faults.Interleaved place) lasts all stays =
-    record { gives = λ stream given holds. (all stream given holds).0; numbers = λ stream given holds. (all stream given holds).1; stays = stays }
-faulty_ends first new (faults.StubTooLong place) lasts all stays =
-    record { gives = λ stream given holds. (all stream given holds).0; numbers = λ stream given holds. (all stream given holds).1; stays = stays }
+faulty_ends : (first new : Kept) (fault : IntakeFault) → IsLasting fault → Faulty first new fault → new.fault ≡ Some fault → Stays first new → Ends (given_fault fault) first new
+faulty_ends first new faults.Memory lasts all kept stays = absurd lasts
+faulty_ends first new (faults.Pdu place inner) lasts all kept stays =
+    record { gives = λ stream given holds. (all stream given holds).0; keeps = kept; numbers = λ stream given holds. (all stream given holds).1; stays = stays }
+faulty_ends first new (faults.Interleaved place) lasts all kept stays =
+    record { gives = λ stream given holds. (all stream given holds).0; keeps = kept; numbers = λ stream given holds. (all stream given holds).1; stays = stays }
+faulty_ends first new (faults.StubTooLong place) lasts all kept stays =
+    record { gives = λ stream given holds. (all stream given holds).0; keeps = kept; numbers = λ stream given holds. (all stream given holds).1; stays = stays }
 
 faulty_at : (kept : Kept) (fault : IntakeFault) → kept.fault ≡ Some fault → Faulty kept kept fault
 faulty_at kept fault is stream given holds =
@@ -129,7 +130,7 @@ faulty_at kept fault is stream given holds =
 -- The fault of before is given again.
 pub gives_again : (kept : Kept) (fault : IntakeFault) → kept.fault ≡ Some fault → LastsIfAny kept.fault → Ends (given_fault fault) kept kept
 gives_again kept fault is lasts =
-    faulty_ends kept kept fault (subst LastsIfAny is lasts) (faulty_at kept fault is) (record { side = refl; length = refl })
+    faulty_ends kept kept fault (subst LastsIfAny is lasts) (faulty_at kept fault is) is (record { side = refl; length = refl })
 
 -- ---- the four other exits
 
@@ -149,6 +150,7 @@ waits_reported first old gone waits = record {
   gives = λ stream given holds.
       let now = holds_reported old stream given gone.healthy (gone.carries stream given holds) in
       (now, ends_at (reported old) no_fault stream given now waits);
+  keeps = tt;
   numbers = λ stream given holds.
       let now = holds_reported old stream given gone.healthy (gone.carries stream given holds) in
       tells_at (reported old) no_fault stream given now waits refl refl;
@@ -180,6 +182,7 @@ gives_reported : (first old new : Kept) (item : Item) → GoneOn first old → G
 gives_reported first old new item gone goes = record {
   gives = λ stream given holds.
       holds_reported new stream (given ++ item ∷ []) goes.healthy (holds_goes old new (Some item) stream given goes (gone.carries stream given holds));
+  keeps = tt;
   numbers = behind_item first old new item gone goes;
   stays = stays_on first new (reported new) (stays_on first old new gone.stays (goes_stays old new (Some item) goes)) (reported_stays new);
 }
@@ -207,10 +210,10 @@ keeping_ends first old fault gone (lasts, stands) =
     λ stream given holds. record { frames = holds.frames; reads = holds.reads; place = holds.place; faulty = (stands, refl, refl) } in
     let all : Faulty first (keeping old fault) fault =
     λ stream given holds. faulty_at (keeping old fault) fault refl stream given (now stream given (gone.carries stream given holds)) in
-    faulty_ends first (keeping old fault) fault lasts all (stays_on first old (keeping old fault) gone.stays (record { side = refl; length = refl }))
+    faulty_ends first (keeping old fault) fault lasts all refl (stays_on first old (keeping old fault) gone.stays (record { side = refl; length = refl }))
 
 stays_fed : (first old : Kept) → GoneOn first old → Ends (given_fault faults.Memory) first old
-stays_fed first old gone = record { gives = gone.carries; numbers = λ stream given holds. gone.numbers; stays = gone.stays }
+stays_fed first old gone = record { gives = gone.carries; keeps = tt; numbers = λ stream given holds. gone.numbers; stays = gone.stays }
 
 refused_ends : (first old : Kept) (fault : IntakeFault) → GoneOn first old → MayStand old fault → Ends (given_fault fault) first (refused old fault)
 refused_ends first old faults.Memory gone stands = stays_fed first old gone

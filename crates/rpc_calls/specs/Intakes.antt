@@ -100,6 +100,16 @@ Gives (Err fault) new stream given = Holds new stream given × Items new.side st
 abbrev pub NextIs : Result (Option Item) IntakeFault → Kept → Kept → Type 0
 NextIs result old new = (stream : List ℕ) (given : List Item) → Holds old stream given → Gives result new stream given
 
+-- A fault of the stream is kept.
+abbrev pub KeepsFault : Result (Option Item) IntakeFault → Kept → Type 0
+KeepsFault (Ok item) new = Unit {0}
+KeepsFault (Err faults.Memory) new = Unit {0}
+KeepsFault (Err fault) new = new.fault ≡ Some fault
+
+-- A fault that was kept is given again, whatever comes.
+abbrev pub GivesAgain : Result (Option Item) IntakeFault → Kept → Type 0
+GivesAgain result old = (fault : IntakeFault) → old.fault ≡ Some fault → result ≡ Err fault
+
 -- Both numbers behind the frame where the item stands.
 pub record BehindItem (side : Side) (stream : List ℕ) (given : List Item) (item : Item) (unprocessed unfinished : ℕ) : Type 0 where
   pub before : List (List ℕ)

@@ -3,7 +3,7 @@
 ghost use Rattle.std.specs.Prelude.{◌≡◌, ◌+◌, ◌<◌, ◌≤◌, ◌^◌, List, [], ℕ, length, IfErr, OnOk, ◌++◌};
 ghost use Rattle.rpc_calls.specs.declared.item.Item.{Item};
 ghost use Rattle.rpc_calls.specs.Assembly.{most_stub, stub_length};
-ghost use Rattle.rpc_calls.specs.Intakes.{FeedIs, Holds, NextIs, NoMemoryInside, NumbersAre, Stays, fresh, most_unprocessed, stream_length};
+ghost use Rattle.rpc_calls.specs.Intakes.{FeedIs, GivesAgain, Holds, KeepsFault, NextIs, NoMemoryInside, NumbersAre, Stays, fresh, most_unprocessed, stream_length};
 ghost use Rattle.rpc_calls.specs.Turns.{TurnIs, refused, reported};
 
 use crate::call::Call;
@@ -95,6 +95,8 @@ impl Intake {
     pub fn next(&mut self) -> Result<Option<Item>, IntakeFault>
         ensures gives { NextIs result self.old self.new }
         ensures inside { IfErr result (λ fault. NoMemoryInside fault) }
+        ensures keeps { KeepsFault result self.new }
+        ensures again { GivesAgain result self.old }
         ensures numbers { NumbersAre result self.old self.new }
         ensures stays { Stays self.old self.new }
     {

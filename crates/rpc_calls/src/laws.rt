@@ -27,6 +27,12 @@ pub fn given_are_first()
         → Holds kept stream given → Items kept.side stream all fault → (more : List Item) × (all ≡ given ++ more) }
 {}
 
+/// A fault of a stream stands whatever comes behind it.
+pub fn faults_stand()
+    ensures { (side : Side) (stream more : List ℕ) (given : List Item) (fault : IntakeFault)
+        → Items side stream given (Some fault) → Items side (stream ++ more) given (Some fault) }
+{}
+
 /// An intake knows how long its stream is.
 pub fn length_is_known()
     ensures { (kept : Kept) (stream : List ℕ) (given : List Item) → Holds kept stream given → stream_length kept ≡ length stream }

@@ -44,3 +44,9 @@ returns-in-Some-clause-inside c = kept_is_plain c.self.inside.fault c.in-Some.fa
 
 pub returns-in-Err-clause-inside : goal.returns-in-Err-clause-inside
 returns-in-Err-clause-inside c = standing_is_plain c.frames.self c.in-Err.fault c.in-Err.ensures.0
+
+pub returns-in-Some-clause-keeps : goal.returns-in-Some-clause-keeps
+returns-in-Some-clause-keeps c = (rw c.self.view_is at (gives_again (the_view c.self.inside) c.in-Some.fault c.in-Some.is c.self.invariant.5)).keeps
+
+pub returns-in-Err-clause-keeps : goal.returns-in-Err-clause-keeps
+returns-in-Err-clause-keeps c = (ends_with_fault c.args.self.now c.frames.self c.turn.new.self c.in-Err.fault c.frames.invariant c.in-Err.ensures).keeps
