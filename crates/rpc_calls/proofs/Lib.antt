@@ -1,0 +1,10 @@
+pub mod Assembling
+pub mod FrameRuns
+pub mod HoldingLaws
+pub mod NextLaws
+pub mod PartUniqueness
+pub mod ReplyLaws
+pub mod StreamUniqueness
+pub mod CallLaws
+pub mod CallsOfStreams
+pub mod CuttingLaws

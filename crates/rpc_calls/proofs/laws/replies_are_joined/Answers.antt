@@ -1,0 +1,5 @@
+use Rattle.rpc_calls.proofs.ReplyLaws.{replies_join}
+use Rattle.rpc_calls.proofs.laws.replies_are_joined.Goals as goal
+
+pub returns : goal.returns
+returns c = replies_join

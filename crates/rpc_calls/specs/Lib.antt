@@ -1,0 +1,10 @@
+pub mod Assembly
+pub mod Calls
+pub mod Cutting
+pub mod Fragments
+pub mod Frames
+pub mod Intakes
+pub mod Parts
+pub mod Steps
+pub mod Streams
+pub mod Turns
