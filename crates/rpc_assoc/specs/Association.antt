@@ -1,14 +1,15 @@
--- The answer of an association to each PDU of a client (C706, 12.6.3 and 12.6.4).
+-- The answer of an association to each item of a client's stream (C706, 12.6.3 and 12.6.4).
 use Rattle.std.specs.Prelude.{ℕ, ◌<◌, Bool, min, nat_lt, ◌==◌, ◌||◌, ◌++◌, List, length, map, Option, Some, None, is_some, if◌then◌else◌}
 use Rattle.std.specs.List.{list_any}
-use Rattle.rpc_pdu.specs.declared.head.Head.{Head}
+use Rattle.rpc_calls.specs.declared.call.Call as calls
+use Rattle.rpc_calls.specs.declared.item.Item.{Item}
+use Rattle.rpc_calls.specs.declared.item.Item.TheVariants as items
 use Rattle.rpc_pdu.specs.declared.pdu.Pdu.{Pdu}
-use Rattle.rpc_pdu.specs.declared.pdu.Pdu.TheVariants.{Request, Bind, AlterContext}
+use Rattle.rpc_pdu.specs.declared.pdu.Pdu.TheVariants.{Bind, AlterContext}
 use Rattle.rpc_pdu.specs.declared.proposal.Proposal.{Proposal}
 use Rattle.rpc_pdu.specs.Encoding.{CanSpell}
 use Rattle.rpc_assoc.specs.declared.assoc.AssocOut.{AssocOut}
 use Rattle.rpc_assoc.specs.declared.assoc.AssocOut.TheVariants.{Reply, Call, Nothing}
-use Rattle.rpc_assoc.specs.declared.call.Call as calls
 use Rattle.rpc_assoc.specs.declared.terms.Terms.{Terms}
 use Rattle.rpc_assoc.specs.Answers.{accepts_alter, accepts_bind, fault_on, nak}
 use Rattle.rpc_assoc.specs.State.{State}
@@ -55,21 +56,26 @@ call_answer s call =
     if list_any (λ id. id == call.context) s.accepted then (Call call, s)
     else (Reply (fault_on call.call_id call.context 0x1C010003), s)
 
-abbrev pub call_of : Head → ℕ → ℕ → List ℕ → calls.Call
-call_of head context opnum stub =
-    record { context = context; opnum = opnum; call_id = head.call_id; endian = head.endian; stub = stub }
+-- The answers to a PDU that is no fragment of a call.
+unfoldable pub single_answer : State → Pdu → Option ℕ → AssocOut × State
+single_answer s (Bind head max_xmit max_recv wanted proposals) group = bind_answer s head.call_id max_xmit max_recv proposals group
+single_answer s (AlterContext head max_xmit max_recv wanted proposals) group = alter_answer s head.call_id proposals
+single_answer s _ group = (Nothing, s)
 
 -- The table of answers.
-unfoldable pub step_of : State → Pdu → Option ℕ → AssocOut × State
-step_of s (Request head hint context opnum object stub) group = call_answer s (call_of head context opnum stub)
-step_of s (Bind head max_xmit max_recv wanted proposals) group = bind_answer s head.call_id max_xmit max_recv proposals group
-step_of s (AlterContext head max_xmit max_recv wanted proposals) group = alter_answer s head.call_id proposals
-step_of s _ group = (Nothing, s)
+unfoldable pub step_of : State → Item → Option ℕ → AssocOut × State
+step_of s (items.Call call) group = call_answer s call
+step_of s (items.Single pdu) group = single_answer s pdu group
+step_of s (items.BadBind call_id reason) group = (Reply (nak call_id reason), s)
 
--- The group that the PDU asks for: a bind that isn't refused whatever its group.
-abbrev pub group_wanted : State → Pdu → Option ℕ
-group_wanted s (Bind head max_xmit max_recv wanted proposals) =
+-- The group that the item asks for: a bind that isn't refused whatever its group.
+abbrev pub group_in : State → Pdu → Option ℕ
+group_in s (Bind head max_xmit max_recv wanted proposals) =
     if is_some s.terms || is_too_small max_xmit max_recv then None else Some wanted
+group_in s _ = None
+
+abbrev pub group_wanted : State → Item → Option ℕ
+group_wanted s (items.Single pdu) = group_in s pdu
 group_wanted s _ = None
 
 -- The longest fragment that the server sends; before a bind, the longest that it ever sends.
@@ -87,3 +93,7 @@ abbrev pub ProposesFew : Pdu → Type 0
 ProposesFew (Bind head max_xmit max_recv wanted proposals) = length proposals < 256
 ProposesFew (AlterContext head max_xmit max_recv wanted proposals) = length proposals < 256
 ProposesFew _ = Unit {0}
+
+abbrev pub AsksFew : Item → Type 0
+AsksFew (items.Single pdu) = ProposesFew pdu
+AsksFew _ = Unit {0}

@@ -1,14 +1,14 @@
-//! One association: its state, and a step for each PDU of the client.
+//! One association: its state, and a step for each item of the client's stream.
 
 ghost use Rattle.std.specs.Prelude.{◌≡◌, ◌≤◌, ◌==◌, IfOk, OnErr, OnOk, is_some};
 ghost use Rattle.std.specs.List.{list_any};
 ghost use Rattle.rpc_assoc.specs.State.{AreTerms, unbound};
-ghost use Rattle.rpc_assoc.specs.Association.{ProposesFew, SpellsReply, alter_answer, bind_answer, bound, call_answer, group_wanted, is_too_small, reply_size, step_of, terms_for};
+ghost use Rattle.rpc_assoc.specs.Association.{AsksFew, SpellsReply, alter_answer, bind_answer, bound, call_answer, group_in, group_wanted, is_too_small, reply_size, single_answer, step_of, terms_for};
 
 use crate::answers::{alter_context_resp, bind_ack, bind_nak, fault};
-use crate::call::Call;
 use crate::terms::Terms;
 use crate::verdicts::{accepted_ids, verdicts_on};
+use rpc_calls::{Call, Item};
 use rpc_pdu::{Pdu, Proposals};
 use std::alloc::{AllocError, Global};
 use std::marker::Model;
@@ -22,14 +22,14 @@ const LEAST_FRAGMENT: u16 = 1432;
 /// The longest fragment that the server sends or asks for.
 const LONGEST_FRAGMENT: u16 = 5840;
 
-/// What comes of a PDU.
+/// What comes of an item.
 #[derive(Debug, Drop)]
 pub enum AssocOut {
-    /// The PDU is answered by this one.
+    /// The item is answered by this PDU.
     Reply(Pdu),
-    /// The PDU calls an operation.
+    /// The item calls an operation.
     Call(Call),
-    /// The PDU has no answer.
+    /// The item has no answer.
     Nothing,
 }
 
@@ -64,10 +64,19 @@ impl Assoc {
     }
 
     /// The group that a bind asks for, where the bind isn't refused whatever its group.
-    pub fn wants(&self, item: &Pdu) -> Option<u32>
+    pub fn wants(&self, item: &Item) -> Option<u32>
         ensures { result ≡ group_wanted self.now item.now }
     {
         match item {
+            Item::Single(pdu) => self.group_in(pdu),
+            _ => None,
+        }
+    }
+
+    fn group_in(&self, pdu: &Pdu) -> Option<u32>
+        ensures { result ≡ group_in self.now pdu.now }
+    {
+        match pdu {
             Pdu::Bind {
                 max_xmit,
                 max_recv,
@@ -96,35 +105,35 @@ impl Assoc {
         }
     }
 
-    /// Answers a PDU; `group` is the association group that a bind gets, None where it can't have one.
-    pub fn step(&mut self, item: Pdu, group: Option<u32>) -> Result<AssocOut, AllocError>
+    /// Answers an item; `group` is the association group that a bind gets, None where it can't have one.
+    pub fn step(&mut self, item: Item, group: Option<u32>) -> Result<AssocOut, AllocError>
         ensures answer { IfOk result (λ out. (out, self.new) ≡ step_of self.old item group) }
         ensures unchanged { OnErr result (self.new ≡ self.old) }
-        ensures spelled { ProposesFew item → IfOk result SpellsReply }
+        ensures spelled { AsksFew item → IfOk result SpellsReply }
     {
         self.answer(item, group)
     }
 
     #[tactic(auto, unfolding(crate::specs::Association::step_of))]
-    fn answer(&mut self, item: Pdu, group: Option<u32>) -> Result<AssocOut, AllocError>
+    fn answer(&mut self, item: Item, group: Option<u32>) -> Result<AssocOut, AllocError>
         ensures answer { IfOk result (λ out. (out, self.new) ≡ step_of self.old item group) }
         ensures unchanged { OnErr result (self.new ≡ self.old) }
     {
         match item {
-            Pdu::Request {
-                head,
-                alloc_hint: _,
-                context,
-                opnum,
-                object: _,
-                stub,
-            } => Ok(self.call(Call {
-                context,
-                opnum,
-                call_id: head.call_id,
-                endian: head.endian,
-                stub,
-            })),
+            Item::Call(call) => Ok(self.call(call)),
+            Item::Single(pdu) => self.single(pdu, group),
+            Item::BadBind { call_id, reason } => {
+                Ok(AssocOut::Reply(bind_nak(self.alloc, call_id, reason)?))
+            }
+        }
+    }
+
+    #[tactic(auto, unfolding(crate::specs::Association::single_answer))]
+    fn single(&mut self, pdu: Pdu, group: Option<u32>) -> Result<AssocOut, AllocError>
+        ensures answer { IfOk result (λ out. (out, self.new) ≡ single_answer self.old pdu group) }
+        ensures unchanged { OnErr result (self.new ≡ self.old) }
+    {
+        match pdu {
             Pdu::Bind {
                 head,
                 max_xmit,
@@ -133,9 +142,7 @@ impl Assoc {
                 proposals,
             } => self.bind(head.call_id, max_xmit, max_recv, proposals, group),
             Pdu::AlterContext {
-                head,
-                proposals,
-                ..
+                head, proposals, ..
             } => self.alter(head.call_id, proposals),
             _ => Ok(AssocOut::Nothing),
         }

@@ -1,17 +1,15 @@
 //! Associations of connection-oriented DCE/RPC: which contexts a client may use, and the answer to
-//! each PDU but that of an operation itself (C706 chapter 12).
+//! each item of its stream but that of an operation itself (C706 chapter 12).
 #![tactic(auto)]
 
 mod answers;
 mod assoc;
-mod call;
 mod syntaxes;
 mod terms;
 mod verdicts;
 
 pub use answers::fault;
 pub use assoc::{Assoc, AssocOut};
-pub use call::Call;
 pub use terms::Terms;
 pub use verdicts::accepts;
 

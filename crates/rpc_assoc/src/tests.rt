@@ -1,7 +1,9 @@
 use super::*;
+use rpc_calls::{Call, Item};
 use rpc_pdu::{Pdu, Verdicts, decode};
 use std::alloc::Global;
 use std::test::*;
+use wire_fields::{Endian, Octets};
 
 /// A bind with three contexts for ClusAPI: over NDR, over NDR64, over bind time feature negotiation.
 const BIND: [u8; 160] = [
@@ -27,16 +29,20 @@ const ALTER_CONTEXT: [u8; 92] = [
     0x9f, 0xe8, 0x08, 0x00, 0x2b, 0x10, 0x48, 0x60, 0x02, 0x00, 0x00, 0x00,
 ];
 
-fn pdu(alloc: Global, bytes: &[u8]) -> Result<Pdu, Fail> {
-    Ok(decode(alloc, bytes).ok().ok_or("the bytes are a PDU")?)
+fn single(alloc: Global, bytes: &[u8]) -> Result<Item, Fail> {
+    let pdu = decode(alloc, bytes).ok().ok_or("the bytes are a PDU")?;
+    Ok(Item::Single(pdu))
 }
 
 /// A call with id 7 of operation 27 on context 1.
-fn request(alloc: Global) -> Result<Pdu, Fail> {
-    let bytes = [
-        5, 0, 0, 3, 0x10, 0, 0, 0, 24, 0, 0, 0, 7, 0, 0, 0, 0, 0, 0, 0, 1, 0, 27, 0,
-    ];
-    pdu(alloc, &bytes)
+fn call(alloc: Global) -> Item {
+    Item::Call(Call {
+        context: 1,
+        opnum: 27,
+        call_id: 7,
+        endian: Endian::Little,
+        stub: Octets::new(Vec::new(alloc)),
+    })
 }
 
 /// The group and the verdicts of a reply that has verdicts.
@@ -85,28 +91,28 @@ fn operation(reply: AssocOut) -> Result<u16, Fail> {
 fn contexts_are_accepted_by_their_syntaxes(rt: HostRuntime) -> Result<(), Fail> {
     let alloc = rt.alloc();
     let mut assoc = Assoc::new(alloc);
-    let early = assoc.step(pdu(alloc, &ALTER_CONTEXT)?, None)?;
+    let early = assoc.step(single(alloc, &ALTER_CONTEXT)?, None)?;
     assert_eq!(rt; refusal(early)?, 0);
-    assert_eq!(rt; assoc.wants(&pdu(alloc, &BIND)?), Some(0));
-    let nowhere = assoc.step(pdu(alloc, &BIND)?, None)?;
+    assert_eq!(rt; assoc.wants(&single(alloc, &BIND)?), Some(0));
+    let nowhere = assoc.step(single(alloc, &BIND)?, None)?;
     assert_eq!(rt; refusal(nowhere)?, 0);
-    let bound = assoc.step(pdu(alloc, &BIND)?, Some(1))?;
+    let bound = assoc.step(single(alloc, &BIND)?, Some(1))?;
     let (group, bound) = verdicts(bound)?;
     assert_eq!(rt; group, 1);
     assert_eq!(rt; bound.as_slice().len(), 3);
     assert_eq!(rt; bound.as_slice()[0].result, 0);
     assert_eq!(rt; bound.as_slice()[1].reason, 2);
     assert_eq!(rt; bound.as_slice()[2].reason, 2);
-    let unknown = assoc.step(request(alloc)?, None)?;
+    let unknown = assoc.step(call(alloc), None)?;
     assert_eq!(rt; fault_status(unknown)?, 0x1C01_0003);
-    let altered = assoc.step(pdu(alloc, &ALTER_CONTEXT)?, None)?;
+    let altered = assoc.step(single(alloc, &ALTER_CONTEXT)?, None)?;
     let (group, altered) = verdicts(altered)?;
     assert_eq!(rt; group, 1);
     assert_eq!(rt; altered.as_slice().len(), 1);
     assert_eq!(rt; altered.as_slice()[0].result, 0);
-    let called = assoc.step(request(alloc)?, None)?;
+    let called = assoc.step(call(alloc), None)?;
     assert_eq!(rt; operation(called)?, 27);
-    let twice = assoc.step(pdu(alloc, &BIND)?, Some(1))?;
+    let twice = assoc.step(single(alloc, &BIND)?, Some(1))?;
     assert_eq!(rt; refusal(twice)?, 0);
     Ok(())
 }

@@ -1,5 +1,5 @@
 -- The turns of `next`: what was read before stays read, and how each turn ends.
-use Rattle.std.proofs.Common.{◌≡◌, ℕ, List, [], ◌∷◌, ◌++◌, length, refl, sym, ap, ◌∙◌, subst, append_assoc, length-append, arith}
+use Rattle.std.proofs.Common.{◌≡◌, ℕ, ◌<◌, ◌≤◌, List, [], ◌∷◌, ◌++◌, length, refl, sym, ap, ◌∙◌, subst, append_assoc, length-append, arith}
 use Rattle.std.specs.Prelude.{Option, Some, None, Result, Ok, Err}
 use Rattle.std.specs.List.{concat}
 use Rattle.std.proofs.lemmas.List.{append-nil}
@@ -20,10 +20,11 @@ pub record GoneOn (old new : Kept) : Type 0 where
   pub healthy : new.fault ≡ no_fault
   pub carries : (stream : List ℕ) (given : List Item) → Holds old stream given → Holds new stream given
   pub stays : Stays old new
+  pub nearer : length new.rest ≤ length old.rest
   pub numbers : (new.unprocessed ≡ old.unprocessed) × (new.unfinished ≡ old.unfinished)
 
 pub gone_nowhere : (kept : Kept) → kept.fault ≡ no_fault → GoneOn kept kept
-gone_nowhere kept healthy = record { healthy = healthy; carries = λ stream given holds. holds; stays = record { side = refl; length = refl }; numbers = (refl, refl) }
+gone_nowhere kept healthy = record { healthy = healthy; carries = λ stream given holds. holds; stays = record { side = refl; length = refl }; nearer = omega arith; numbers = (refl, refl) }
 
 -- ---- a frame more
 
@@ -62,6 +63,9 @@ goes_stays old new item goes = record {
   length = omega (arith, goes.place, ap length goes.cut, length-append goes.frame new.rest);
 }
 
+goes_shorter : (old new : Kept) (item : Option Item) → Goes old new item → length new.rest < length old.rest
+goes_shorter old new item goes = omega (arith, goes.is.long, ap length goes.cut, length-append goes.frame new.rest)
+
 stays_on : (first old new : Kept) → Stays first old → Stays old new → Stays first new
 stays_on first old new a b = record { side = b.side ∙ a.side; length = b.length ∙ a.length }
 
@@ -71,8 +75,15 @@ goes_on_turning first old new gone goes = record {
   healthy = goes.healthy;
   carries = λ stream given holds. subst (λ (items : List Item). Holds new stream items) (append-nil given) (holds_goes old new None stream given goes (gone.carries stream given holds));
   stays = stays_on first old new gone.stays (goes_stays old new None goes);
+  nearer = omega (arith, gone.nearer, goes_shorter old new None goes);
   numbers = (goes.numbers.0 ∙ gone.numbers.0, goes.numbers.1 ∙ gone.numbers.1);
 }
+
+-- An item takes its frame at least.
+pub item_shorter : (first old new after : Kept) (item : Item) → GoneOn first old → Goes old new (Some item) → after ≡ reported new → length after.rest < length first.rest
+item_shorter first old new after item gone goes is =
+    let same : length after.rest ≡ length new.rest = ap (λ (kept : Kept). length kept.rest) is in
+    omega (arith, same, gone.nearer, goes_shorter old new (Some item) goes)
 
 -- ---- the ends
 

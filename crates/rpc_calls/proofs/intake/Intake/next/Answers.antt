@@ -1,5 +1,5 @@
 use Rattle.rpc_calls.specs.contracts.intake.Intake.{the_view}
-use Rattle.rpc_calls.proofs.NextLaws.{ends_waiting, ends_with_fault, ends_with_item, gives_again, goes_on_turning, kept_is_plain, standing_is_plain}
+use Rattle.rpc_calls.proofs.NextLaws.{ends_waiting, ends_with_fault, ends_with_item, gives_again, goes_on_turning, item_shorter, kept_is_plain, standing_is_plain}
 use Rattle.rpc_calls.proofs.intake.Intake.next.Goals as goal
 
 pub returns-in-Some-clause-gives : goal.returns-in-Some-clause-gives
@@ -50,3 +50,8 @@ returns-in-Some-clause-keeps c = (rw c.self.view_is at (gives_again (the_view c.
 
 pub returns-in-Err-clause-keeps : goal.returns-in-Err-clause-keeps
 returns-in-Err-clause-keeps c = (ends_with_fault c.args.self.now c.frames.self c.turn.new.self c.in-Err.fault c.frames.invariant c.in-Err.ensures).keeps
+
+pub returns-in-Ok-Went-Some-clause-shorter : goal.returns-in-Ok-Went-Some-clause-shorter
+returns-in-Ok-Went-Some-clause-shorter c =
+    let turn = rw (c.in-Ok-Went-Some.field-0-is, c.in-Ok-Went-Some.field-0-0-is) at c.in-Ok-Went-Some.ensures in
+    item_shorter c.args.self.now c.frames.self c.turn.new.self c.report-in-Ok-Went-Some.new.self c.in-Ok-Went-Some.item c.frames.invariant turn c.report-in-Ok-Went-Some.ensures
