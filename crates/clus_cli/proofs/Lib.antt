@@ -1,3 +1,5 @@
-pub mod Frames
+pub mod AnswerLaws
+pub mod DrainLaws
+pub mod FewContexts
+pub mod ServeLaws
 pub mod WordLaws
-pub mod OneAnswer

@@ -1,3 +1,4 @@
+pub mod Connections
+pub mod Pieces
 pub mod Session
 pub mod Statuses
-pub mod Turns

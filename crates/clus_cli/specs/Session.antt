@@ -1,89 +1,97 @@
--- What `session` writes for an input: the bind_ack of its first frame, and a fault for each request behind it.
-use Rattle.std.specs.Prelude.{◌≡◌, ℕ, ◌+◌, ◌<◌, ◌≤◌, ◌⊎◌, Bool, false, ◌&&◌, ◌==◌, List, [], ◌∷◌, ◌++◌, length, take, Option, Some, None, if◌then◌else◌}
-use Rattle.std.specs.List.{list_any}
+-- What `session` writes for a client's stream: the answer to each of its items, in turn.
+use Rattle.std.specs.Prelude.{◌≡◌, ◌⊎◌, ℕ, zero, ◌+◌, ◌<◌, List, [], ◌∷◌, ◌++◌, length, Option, Some, None}
 use Rattle.causes.specs.Writing.{Wrote, WroteSome}
 use Rattle.rpc_pdu.specs.declared.pdu.Pdu.{Pdu}
-use Rattle.rpc_pdu.specs.declared.pdu.Pdu.TheVariants.{Request, Bind}
-use Rattle.rpc_pdu.specs.declared.proposal.Proposal.{Proposal}
 use Rattle.rpc_pdu.specs.Encoding.{spelling}
-use Rattle.rpc_pdu.specs.Flags.{has_flag}
-use Rattle.rpc_pdu.specs.Grammar.{IsPdu}
-use Rattle.rpc_pdu.specs.Header.{peek_at}
+use Rattle.rpc_calls.specs.declared.call.Call as calls
+use Rattle.rpc_calls.specs.declared.intake_fault.IntakeFault.{IntakeFault}
+use Rattle.rpc_calls.specs.declared.item.Item.{Item}
+use Rattle.rpc_calls.specs.declared.side.Side.TheVariants.{Server}
+use Rattle.rpc_calls.specs.Intakes.{most_unprocessed}
+use Rattle.rpc_calls.specs.Streams.{Items, Reads}
 use Rattle.rpc_assoc.specs.declared.assoc.AssocOut.{AssocOut}
 use Rattle.rpc_assoc.specs.declared.assoc.AssocOut.TheVariants.{Reply, Call, Nothing}
 use Rattle.rpc_assoc.specs.Answers.{fault_on}
 use Rattle.rpc_assoc.specs.Association.{group_wanted, step_of}
 use Rattle.rpc_assoc.specs.State.{State, unbound}
-use Rattle.rpc_assoc.specs.Verdicts.{is_accepted}
 use Rattle.clus_cli.specs.declared.status.Status.{Status}
 use Rattle.clus_cli.specs.declared.status.Status.TheVariants as statuses
 
--- The longest input that is answered.
-abbrev pub longest_input : ℕ
-longest_input = 262144
+-- ---- the answer to an item
 
--- One context is proposed, and it is accepted.
-abbrev pub is_one_accepted : List Proposal → Bool
-is_one_accepted (proposal ∷ []) = is_accepted proposal
-is_one_accepted _ = false
+-- A bind that asks for a new group gets group 1. No other group has a connection.
+abbrev pub group_for : Option ℕ → Option ℕ
+group_for (Some zero) = Some 1
+group_for _ = None
 
--- A bind that isn't refused opens the association where it asks for a new group and proposes one context that is accepted.
-abbrev pub opens : Option ℕ → List Proposal → Bool
-opens None proposals = false
-opens (Some group) proposals = group == 0 && is_one_accepted proposals
+-- There is no operation: a call is out of range, nca_s_op_rng_error.
+abbrev pub reply_in : AssocOut × State → Option Pdu × State
+reply_in (Reply reply, next) = (Some reply, next)
+reply_in (Call call, next) = (Some (fault_on call.call_id call.context 0x1C010002), next)
+reply_in (Nothing, next) = (None, next)
 
--- The PDUs that are answered: the bind that opens the association, and behind it whole requests on its context.
-unfoldable pub is_answered : State → Pdu → Bool
-is_answered s (Bind head max_xmit max_recv group proposals) = opens (group_wanted s (Bind head max_xmit max_recv group proposals)) proposals
-is_answered s (Request head hint context opnum object stub) = has_flag head.flags 0x03 && list_any (λ id. id == context) s.accepted
-is_answered s _ = false
+-- The reply, if there is one, and the state of the association behind it.
+unfoldable pub answer_to : State → Item → Option Pdu × State
+answer_to s item = reply_in (step_of s item (group_for (group_wanted s item)))
 
--- A call fails, since there is no operation: nca_s_op_rng_error.
-abbrev pub reply_in : AssocOut × State → Option (Pdu × State)
-reply_in (Reply reply, next) = Some (reply, next)
-reply_in (Call call, next) = Some (fault_on call.call_id call.context 0x1C010002, next)
-reply_in (Nothing, next) = None
+abbrev pub text_of : Option Pdu → List ℕ
+text_of None = []
+text_of (Some reply) = spelling reply
 
--- The answer of the association to a PDU, whose new group is group 1, and the state behind it.
-unfoldable pub answer_of : State → Pdu → Option (Pdu × State)
-answer_of s pdu = if is_answered s pdu then reply_in (step_of s pdu (Some 1)) else None
+-- The replies to the items, and the state behind them.
+unfoldable pub answers : State → List Item → List ℕ × State
+answers s [] = ([], s)
+answers s (item ∷ items) = (text_of (answer_to s item).0 ++ (answers (answer_to s item).1 items).0, (answers (answer_to s item).1 items).1)
 
--- The frame spells a PDU that is answered so.
-abbrev pub Answers : State → List ℕ → Pdu → State → Type 0
-Answers s frame reply next = (pdu : Pdu) × IsPdu frame pdu × (answer_of s pdu ≡ Some (reply, next))
+abbrev pub answer_text : List Item → List ℕ
+answer_text items = (answers unbound items).0
 
--- The frame spells no PDU, or one that isn't answered.
-abbrev pub Refuses : State → List ℕ → Type 0
-Refuses s frame = ((pdu : Pdu) → IsPdu frame pdu → ⊥) ⊎ ((pdu : Pdu) × IsPdu frame pdu × (answer_of s pdu ≡ None))
+-- ---- the stream
 
--- What is left holds no whole frame.
-abbrev pub Ends : List ℕ → Type 0
-Ends rest = (peek_at rest ≡ None) ⊎ ((size : ℕ) × (peek_at rest ≡ Some size) × (16 ≤ size) × (length rest < size))
+-- How many bytes one connection may send, and how many are read at once.
+abbrev pub most_stream : ℕ
+most_stream = 1073741824
 
--- What is left begins with a frame that can't be one, or with one that is refused.
-abbrev pub Stops : State → List ℕ → Type 0
-Stops s rest = (size : ℕ) × (peek_at rest ≡ Some size) × ((size < 16) ⊎ ((16 ≤ size) × (size ≤ length rest) × Refuses s (take size rest)))
+abbrev pub piece_length : ℕ
+piece_length = 4096
 
--- The input behind a place is these frames, each answered in turn, and a rest that ends them or stops at its first byte.
-abbrev pub Session : List (List ℕ) → State → ℕ → List ℕ → List ℕ → Option ℕ → Type 0
-Session [] s place rest out None = (out ≡ []) × Ends rest
-Session [] s place rest out (Some stop) = (out ≡ []) × (stop ≡ place) × Stops s rest
-Session (frame ∷ frames) s place rest out stop =
-    (reply : Pdu) × (next : State) × (more : List ℕ) × (tail : List ℕ)
-    × (rest ≡ frame ++ more) × (peek_at rest ≡ Some (length frame)) × (16 ≤ length frame) × Answers s frame reply next
-    × (out ≡ spelling reply ++ tail) × Session frames next (place + length frame) more tail stop
+-- The items are the first ones of the stream.
+abbrev pub AreFirst : List ℕ → List Item → Type 0
+AreFirst stream given = (frames : List (List ℕ)) × (left : Option calls.Call) × (rest : List ℕ) × Reads Server stream frames given left rest
 
--- The whole answer to an input, and the place where it stops, if it does.
-abbrev pub IsAnswered : List ℕ → List ℕ → Option ℕ → Type 0
-IsAnswered input out stop = (frames : List (List ℕ)) × Session frames unbound 0 input out stop
+-- The bytes that wait behind the stream's whole frames leave no room for a piece.
+abbrev pub HasNoRoom : List ℕ → List Item → Type 0
+HasNoRoom stream given =
+    (frames : List (List ℕ)) × (left : Option calls.Call) × (rest : List ℕ) × Reads Server stream frames given left rest
+    × (most_unprocessed < length rest + piece_length)
+
+-- Why the stream was read no further: it has a fault, or there is no more, or a piece more might be more than is taken.
+abbrev pub IsWhole : List ℕ → List ℕ → List Item → Option IntakeFault → Type 0
+IsWhole stream behind given (Some fault) = Unit {0}
+IsWhole stream behind given None = (behind ≡ []) ⊎ ((most_stream < length stream + piece_length) ⊎ HasNoRoom stream given)
+
+-- The stream was read as far as one connection is, and all its items before its fault were answered.
+pub record IsAnswered (input : List ℕ) (before now : Option (List ℕ)) : Type 0 where
+  pub stream : List ℕ
+  pub behind : List ℕ
+  pub given : List Item
+  pub fault : Option IntakeFault
+  pub parts : input ≡ stream ++ behind
+  pub items : Items Server stream given fault
+  pub whole : IsWhole stream behind given fault
+  pub wrote : Wrote before now (answer_text given)
+
+-- What was written is a prefix of the answer to the first items of the input.
+pub record IsAnsweredInPart (input : List ℕ) (before now : Option (List ℕ)) : Type 0 where
+  pub stream : List ℕ
+  pub behind : List ℕ
+  pub given : List Item
+  pub parts : input ≡ stream ++ behind
+  pub first : AreFirst stream given
+  pub wrote : WroteSome before now (answer_text given)
 
 -- What was written for an input, by the status with which the run ended.
 abbrev pub Writes : List ℕ → Option (List ℕ) → Option (List ℕ) → Status → Type 0
-Writes input before now statuses.Done =
-    (length input ≤ longest_input) × ((out : List ℕ) × IsAnswered input out None × Wrote before now out)
-Writes input before now (statuses.NotYet place) =
-    ((longest_input < length input) × (place ≡ longest_input) × Wrote before now [])
-    ⊎ ((length input ≤ longest_input) × ((out : List ℕ) × IsAnswered input out (Some place) × Wrote before now out))
-Writes input before now statuses.WriteFault =
-    (length input ≤ longest_input) × ((out : List ℕ) × (stop : Option ℕ) × IsAnswered input out stop × WroteSome before now out)
-Writes input before now _ = Wrote before now []
+Writes input before now statuses.Done = IsAnswered input before now
+Writes input before now statuses.Usage = Wrote before now []
+Writes input before now _ = IsAnsweredInPart input before now

@@ -1,12 +1,11 @@
 //! The commands of `mscs` over any input and output: [`run`] is the program but for its real streams.
 #![tactic(auto)]
 
-mod answering;
-mod laws;
+mod connection;
+mod piece;
 mod running;
 mod status;
 
-pub use laws::one_answer;
 pub use running::run;
 pub use status::Status;
 

@@ -4,17 +4,18 @@ ghost use Rattle.std.specs.Prelude.{◌≡◌, ◌≢◌, ◌↔◌, [], ◌∷�
 ghost use Rattle.causes.specs.Counts.{Rose};
 ghost use Rattle.clus_cli.specs.Session.{Writes};
 
-use crate::answering::answer_all;
+use crate::connection::{Drained, drain};
+use crate::piece::{Taken, take_piece};
 use crate::status::Status;
-use edge_io::{ReadAll, Sink, Source, read_whole, write_whole};
-use std::alloc::{AllocError, Global};
-
-/// The longest input that is answered, in bytes.
-const LONGEST_INPUT: usize = 262_144;
+use edge_io::{Sink, Source};
+use rpc_assoc::Assoc;
+use rpc_calls::{Intake, Side};
+use std::alloc::Global;
 
 /// Runs the command that the words give (without the program's name), over any input and output.
 ///
-/// `session` reads one recorded client stream and writes the answers to it.
+/// `session` reads one recorded client stream and writes the answers to it, each as soon as its item
+/// is whole.
 pub fn run<S: Source, K: Sink>(
     alloc: Global,
     words: &[String],
@@ -38,26 +39,22 @@ fn session<S: Source, K: Sink>(alloc: Global, input: &mut S, output: &mut K) -> 
     ensures read { result ≡ Status.ReadFault → Rose (S.faults input.old) (S.faults input.new) }
     ensures write { result ≡ Status.WriteFault → Rose (K.faults output.old) (K.faults output.new) }
 {
-    let bytes = match read_whole(alloc, input, LONGEST_INPUT) {
-        ReadAll::Bytes(bytes) => bytes,
-        ReadAll::TooLong => {
-            return Status::NotYet {
-                place: LONGEST_INPUT as u32,
-            };
+    let mut intake = Intake::new(alloc, Side::Server);
+    let mut assoc = Assoc::new(alloc);
+    let mut taken = 0;
+    'pieces: loop {
+        match take_piece(input, &mut intake, &mut taken) {
+            Taken::Piece => {}
+            Taken::End => return Status::Done,
+            Taken::ReadFault => return Status::ReadFault,
+            Taken::NoMemory => return Status::NoMemory,
         }
-        ReadAll::Failed => return Status::ReadFault,
-        ReadAll::Memory => return Status::NoMemory,
-    };
-    let answered = match answer_all(alloc, &bytes) {
-        Ok(answered) => answered,
-        Err(AllocError) => return Status::NoMemory,
-    };
-    if write_whole(output, &answered.out).is_err() {
-        return Status::WriteFault;
-    }
-    match answered.stop {
-        None => Status::Done,
-        Some(place) => Status::NotYet { place },
+        match drain(alloc, &mut intake, &mut assoc, output) {
+            Drained::Waits => {}
+            Drained::Closed => return Status::Done,
+            Drained::WriteFault => return Status::WriteFault,
+            Drained::NoMemory => return Status::NoMemory,
+        }
     }
 }
 

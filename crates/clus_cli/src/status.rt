@@ -6,7 +6,7 @@ use std::alloc::{AllocError, Global};
 /// How a run of the program ended.
 #[derive(Clone, Copy, Debug, PartialEq, Eq)]
 pub enum Status {
-    /// The input was read to its end and all was written.
+    /// The input was read to its end, or to what ends it, and all was written.
     Done,
     /// The words are no command.
     Usage,
@@ -16,8 +16,6 @@ pub enum Status {
     WriteFault,
     /// Memory ran out.
     NoMemory,
-    /// The input has something at this place that isn't answered yet.
-    NotYet { place: u32 },
 }
 
 impl Status {
@@ -31,7 +29,6 @@ impl Status {
             Status::ReadFault => 3,
             Status::WriteFault => 4,
             Status::NoMemory => 6,
-            Status::NotYet { .. } => 10,
         }
     }
 
@@ -45,13 +42,6 @@ impl Status {
             Status::ReadFault => String::from_str(alloc, "read fault"),
             Status::WriteFault => String::from_str(alloc, "write fault"),
             Status::NoMemory => String::from_str(alloc, "no memory"),
-            Status::NotYet { place } => not_yet(alloc, *place),
         }
     }
-}
-
-fn not_yet(alloc: Global, place: u32) -> Result<String, AllocError>
-    ensures { IfOk result (λ text. string_bytes text ≡ text_of (Status.NotYet place)) }
-{
-    format!(in alloc; "not yet: place {place}")
 }

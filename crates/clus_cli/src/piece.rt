@@ -1,0 +1,55 @@
+//! Taking a client's bytes, piece by piece.
+
+ghost use Rattle.std.specs.Prelude.{◌≡◌, ◌≤◌};
+ghost use Rattle.causes.specs.Counts.{Rose};
+ghost use Rattle.rpc_calls.specs.Intakes.{stream_length};
+ghost use Rattle.clus_cli.specs.Pieces.{Takes};
+ghost use Rattle.clus_cli.specs.Session.{most_stream};
+
+use edge_io::{Failed, Source};
+use rpc_calls::{FeedFault, Intake};
+
+/// How many bytes are read at once.
+const PIECE: usize = 4096;
+
+/// How many bytes one connection may send.
+const MOST_STREAM: u64 = 1_073_741_824;
+
+/// What the next piece comes to.
+#[derive(Drop)]
+pub(crate) enum Taken {
+    Piece,
+    /// There is no more, or no more is taken.
+    End,
+    ReadFault,
+    NoMemory,
+}
+
+/// Reads the next piece and hands it to the intake; `taken` counts the bytes.
+pub(crate) fn take_piece<S: Source>(input: &mut S, intake: &mut Intake, taken: &mut u64) -> Taken
+    requires counted { stream_length intake.old ≡ taken.old }
+    requires limit { taken.old ≤ most_stream }
+    ensures takes { Takes (S.left input.old) (S.left input.new) intake.old intake.new taken.old taken.new result }
+    ensures later { S.faults input.old ≤ S.faults input.new }
+    ensures cause { result ≡ Taken.ReadFault → Rose (S.faults input.old) (S.faults input.new) }
+{
+    let mut buffer = [0u8; PIECE];
+    let count = match input.read(&mut buffer) {
+        Ok(count) => count,
+        Err(Failed) => return Taken::ReadFault,
+    };
+    if count == 0 {
+        return Taken::End;
+    }
+    if MOST_STREAM - *taken < count as u64 {
+        return Taken::End;
+    }
+    match intake.feed(&buffer[..count]) {
+        Ok(()) => {
+            *taken += count as u64;
+            Taken::Piece
+        }
+        Err(FeedFault::Backlog) => Taken::End,
+        Err(FeedFault::Memory) => Taken::NoMemory,
+    }
+}
