@@ -1,5 +1,5 @@
 -- Each reply of an association has an encoding.
-use Rattle.std.proofs.Common.{◌≡◌, ℕ, ◌+◌, ◌*◌, ◌<◌, ◌≤◌, Bool, true, false, cond, List, [], ◌∷◌, ◌++◌, length, map, Option, Some, None, Result, Ok, Err, refl, subst, arith}
+use Rattle.std.proofs.Common.{◌≡◌, ℕ, ◌<◌, Bool, true, false, cond, List, [], ◌∷◌, length, map, Option, Some, None, Result, Ok, Err, refl, subst, arith}
 use Rattle.std.specs.Prelude.{IfOk, is_some}
 use Rattle.std.specs.List.{list_any}
 use Rattle.std.proofs.lemmas.List.{length-map}
@@ -12,7 +12,7 @@ use Rattle.rpc_pdu.proofs.Answered.{ack_spells, alter_context_resp_spells, fault
 use Rattle.rpc_calls.specs.declared.item.Item.{Item}
 use Rattle.rpc_calls.specs.declared.item.Item.TheVariants as items
 use Rattle.rpc_assoc.specs.declared.assoc.AssocOut.{AssocOut}
-use Rattle.rpc_assoc.specs.declared.assoc.AssocOut.TheVariants.{Reply, Call, Nothing}
+use Rattle.rpc_assoc.specs.declared.assoc.AssocOut.TheVariants.{Reply, Call}
 use Rattle.rpc_assoc.specs.declared.terms.Terms.{Terms}
 use Rattle.rpc_assoc.specs.Answers.{accepts_alter, accepts_bind, fault_on, head_of, nak}
 use Rattle.rpc_assoc.specs.Association.{AsksFew, ProposesFew, SpellsReply, alter_answer, alter_by, bind_answer, call_answer, in_group, is_too_small, single_answer, step_of, terms_for}

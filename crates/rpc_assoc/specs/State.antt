@@ -1,5 +1,5 @@
 -- What an association keeps.
-use Rattle.std.specs.Prelude.{ℕ, ◌≤◌, List, [], Option, None, IfSome}
+use Rattle.std.specs.Prelude.{ℕ, ◌≤◌, List, [], Option, None}
 use Rattle.rpc_assoc.specs.declared.terms.Terms.{Terms}
 
 -- The terms of its bind_ack, once there is one, and the contexts that were accepted.

@@ -142,7 +142,9 @@ impl Assoc {
                 proposals,
             } => self.bind(head.call_id, max_xmit, max_recv, proposals, group),
             Pdu::AlterContext {
-                head, proposals, ..
+                head,
+                proposals,
+                ..
             } => self.alter(head.call_id, proposals),
             _ => Ok(AssocOut::Nothing),
         }
