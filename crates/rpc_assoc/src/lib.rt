@@ -12,6 +12,3 @@ pub use answers::fault;
 pub use assoc::{Assoc, AssocOut};
 pub use terms::Terms;
 pub use verdicts::accepts;
-
-#[cfg(test)]
-mod tests;
