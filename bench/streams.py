@@ -7,11 +7,9 @@ twice. For each run it prints the length, the seconds, the MB/s and the most mem
 """
 import os
 import pathlib
-import resource
 import struct
 import subprocess
 import sys
-import threading
 import time
 
 TOP = pathlib.Path(__file__).resolve().parent.parent
@@ -40,11 +38,12 @@ def requests(length):
     return BIND + request(2, 3, 64) * (length // 64)
 
 
-def write_in_pieces(pipe, stream, piece):
-    view = memoryview(stream)
-    for at in range(0, len(stream), piece):
-        os.write(pipe, view[at : at + piece])
-    os.close(pipe)
+def most_memory(pid):
+    """The most resident memory that the process has held so far, in KiB."""
+    for line in pathlib.Path(f"/proc/{pid}/status").read_text().splitlines():
+        if line.startswith("VmHWM"):
+            return int(line.split()[1])
+    return 0
 
 
 def run(stream, piece):
@@ -52,13 +51,14 @@ def run(stream, piece):
     begin = time.perf_counter()
     program = subprocess.Popen([PROGRAM, "session"], stdin=reading, stdout=subprocess.DEVNULL)
     os.close(reading)
-    writer = threading.Thread(target=write_in_pieces, args=(writing, stream, piece))
-    writer.start()
-    _, status, usage = os.wait4(program.pid, 0)
-    writer.join()
-    if status != 0:
-        sys.exit(f"session ended with status {status}")
-    return time.perf_counter() - begin, usage.ru_maxrss
+    view = memoryview(stream)
+    for at in range(0, len(stream), piece):
+        os.write(writing, view[at : at + piece])
+    memory = most_memory(program.pid)
+    os.close(writing)
+    if program.wait() != 0:
+        sys.exit(f"session ended with status {program.returncode}")
+    return time.perf_counter() - begin, memory
 
 
 def main():
