@@ -1,0 +1,5 @@
+pub mod Images
+pub mod Views
+pub mod Calls
+pub mod Crashes
+pub mod Notes

@@ -1,0 +1,15 @@
+//! A disk whose writes survive a crash once they are synced: as a trait, in memory and over a file.
+#![tactic(auto)]
+
+pub mod crash_disk;
+pub mod disk;
+pub mod fault;
+pub mod mem_disk;
+pub mod note;
+mod snapshot;
+pub mod span;
+
+pub use crash_disk::CrashDisk;
+pub use disk::Disk;
+pub use fault::DiskFault;
+pub use mem_disk::MemDisk;
