@@ -1,2 +1,5 @@
 pub mod Overlays
 pub mod Replays
+pub mod Fills
+pub mod Sounds
+pub mod Returning

@@ -3,3 +3,4 @@ pub mod Views
 pub mod Calls
 pub mod Crashes
 pub mod Notes
+pub mod Files

@@ -4,6 +4,7 @@
 pub mod crash_disk;
 pub mod disk;
 pub mod fault;
+pub mod file_disk;
 pub mod mem_disk;
 pub mod note;
 mod snapshot;
@@ -12,4 +13,5 @@ pub mod span;
 pub use crash_disk::CrashDisk;
 pub use disk::Disk;
 pub use fault::DiskFault;
+pub use file_disk::FileDisk;
 pub use mem_disk::MemDisk;

@@ -107,6 +107,7 @@ impl MemDisk {
     fn fail(&mut self) -> DiskFault
         ensures fault { result ≡ Failed }
         ensures counted { self.new ≡ record self.old { faults = min (self.old.faults + 1) (2 ^ 64 - 1) } }
+        ensures later { self.old.faults ≤ self.new.faults }
     {
         self.faults = self.faults.saturating_add(1);
         DiskFault::Failed
@@ -141,13 +142,14 @@ impl MemDisk {
         requires room { len ≤ self.old.bytes_left }
         ensures { self.new ≡ noted (written at bytes.now len self.old.current) len self.old }
     {
+        let from = append(&mut self.store, bytes);
+        let count = bytes.len();
         let note = Note::Wrote {
             at,
             len,
-            from: self.store.len(),
-            count: bytes.len(),
+            from,
+            count,
         };
-        append(&mut self.store, bytes);
         self.present.apply(&self.store, note);
         push_note(&mut self.notes, note);
         self.bytes_left -= len;
@@ -260,13 +262,16 @@ fn push_note(notes: &mut Vec<Note>, note: Note)
     }
 }
 
-fn append(store: &mut Vec<u8>, bytes: &[u8])
+/// Adds the bytes, and tells where they begin.
+fn append(store: &mut Vec<u8>, bytes: &[u8]) -> usize
     requires { length store.old.items + length bytes.now ≤ vec_capacity store.old }
+    ensures from { result ≡ length store.old.items }
     ensures items { store.new.items ≡ store.old.items ++ bytes.now }
     ensures room_kept { vec_capacity store.old ≤ vec_capacity store.new }
 {
+    let from = store.len();
     match store.extend_from_slice(bytes) {
-        Ok(()) => {}
+        Ok(()) => from,
         Err(_) => unreachable!(),
     }
 }

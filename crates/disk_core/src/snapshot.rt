@@ -157,14 +157,15 @@ fn push_span(pending: &mut Vec<Span>, span: Span)
     }
 }
 
-fn fill(image: &mut Vec<u8>, pending: &Vec<Span>, bytes: &[u8])
-    requires { AreWithin (length image.old.items) pending.now.items }
-    ensures { image.new.items ≡ filled pending.now.items bytes.now image.old.items }
+fn fill(image: &mut Vec<u8>, pending: &[Span], bytes: &[u8])
+    requires { AreWithin (length image.old.items) pending.now }
+    ensures { image.new.items ≡ filled pending.now bytes.now image.old.items }
 {
     let mut rest = bytes;
     for span in pending {
-        let count = rest.len().min(span.len as usize);
-        put(image, span.at as usize, &rest[..count]);
-        rest = &rest[count..];
+        let count = (span.len as usize).min(rest.len());
+        let (front, back) = rest.split_at(count);
+        put(image, span.at as usize, front);
+        rest = back;
     }
 }

@@ -1,0 +1,227 @@
+//! A disk over a file.
+ghost use Rattle.std.specs.Prelude.{◌≡◌, ◌+◌, ◌-◌, ◌<◌, ◌≤◌, ◌^◌, length, min};
+
+use crate::disk::Disk;
+use crate::fault::DiskFault;
+use std::fs::{Files, OpenFile, OpenOptions};
+use std::io;
+use std::io::ErrorKind;
+use std::marker::Model;
+use std::os::unix::fs::FileExt;
+use std::path::Path;
+
+/// The size of every disk over a file.
+const SIZE: u64 = 1_099_511_627_776;
+
+/// A disk over a file, which is opened at the first call and made at the first write.
+///
+/// Each write is one write of the system, and each sync one `fdatasync`; the first one behind the
+/// making of the file syncs its folder too. The fencing token is kept in this value alone, so another
+/// process isn't fenced.
+#[derive(Drop)]
+pub struct FileDisk<'a, R: Files> {
+    runtime: &'a R,
+    path: String,
+    file: Option<R::File>,
+    is_new: bool,
+    held: u32,
+    faults: u64,
+}
+
+impl<'a, R: Files> Model for FileDisk<'a, R> {
+    ghost use Rattle.disk_core.specs.Files.{FileState};
+    ghost Value = { FileState };
+    ghost view = { λ d. record { held = d.held; faults = d.faults } };
+}
+
+impl<'a, R: Files> FileDisk<'a, R>
+where
+    R::File: FileExt,
+{
+    ghost use Rattle.disk_core.specs.declared.fault.DiskFault.TheVariants.{Failed};
+    ghost use Rattle.disk_core.specs.Files.{FileState, FailsAs};
+
+    /// The disk over the file at that path, with no claim. It makes no call of the system.
+    pub fn at(runtime: &'a R, path: String) -> FileDisk<'a, R>
+        ensures { result ≡ record { held = 0; faults = 0 } }
+    {
+        FileDisk {
+            runtime,
+            path,
+            file: None,
+            is_new: false,
+            held: 0,
+            faults: 0,
+        }
+    }
+
+    /// The answer to what the system answered, whose failure is counted.
+    fn answer(&mut self, done: io::Result<()>) -> Result<(), DiskFault>
+        ensures { FailsAs self.old result self.new }
+    {
+        match done {
+            Ok(()) => Ok(()),
+            Err(_) => {
+                self.faults = self.faults.saturating_add(1);
+                Err(DiskFault::Failed)
+            }
+        }
+    }
+
+    /// Opens the file where it is there and isn't open.
+    fn open(&mut self) -> Result<(), DiskFault>
+        ensures { FailsAs self.old result self.new }
+    {
+        if self.file.is_some() {
+            return Ok(());
+        }
+        match open_file(self.runtime, self.path.as_str(), false) {
+            Ok(file) => {
+                self.file = Some(file);
+                Ok(())
+            }
+            Err(error) if error.kind() == ErrorKind::NotFound => Ok(()),
+            Err(error) => self.answer(Err(error)),
+        }
+    }
+
+    /// Makes the file where it isn't there, and opens it.
+    fn make(&mut self) -> Result<(), DiskFault>
+        ensures { FailsAs self.old result self.new }
+    {
+        self.open()?;
+        if self.file.is_some() {
+            return Ok(());
+        }
+        match open_file(self.runtime, self.path.as_str(), true) {
+            Ok(file) => {
+                self.file = Some(file);
+                self.is_new = true;
+                Ok(())
+            }
+            Err(error) => self.answer(Err(error)),
+        }
+    }
+
+    /// Syncs the folder of a file that was made since the last sync.
+    fn sync_folder(&mut self) -> Result<(), DiskFault>
+        ensures { FailsAs self.old result self.new }
+    {
+        if !self.is_new {
+            return Ok(());
+        }
+        match sync_parent(self.runtime, self.path.as_str()) {
+            Ok(()) => {
+                self.is_new = false;
+                Ok(())
+            }
+            Err(error) => self.answer(Err(error)),
+        }
+    }
+}
+
+impl<'a, R: Files> Disk for FileDisk<'a, R>
+where
+    R::File: FileExt,
+{
+    ghost use Rattle.disk_core.specs.Files.{file_view};
+    ghost view = { file_view };
+    ghost use Rattle.std.proofs.Common.{rules};
+    ghost whole = { Prim.search rules };
+
+    fn size(&self) -> u64 {
+        SIZE
+    }
+
+    fn read(&mut self, at: u64, into: &mut [u8]) -> Result<(), DiskFault> {
+        self.open()?;
+        let done = match &self.file {
+            Some(file) => read_all(file, at, into),
+            None => {
+                into.fill(0);
+                Ok(())
+            }
+        };
+        self.answer(done)
+    }
+
+    fn write(&mut self, claim: u32, at: u64, bytes: &[u8]) -> Result<(), DiskFault> {
+        if claim < self.held {
+            return Err(DiskFault::Fenced { held: self.held });
+        }
+        self.make()?;
+        let done = match &self.file {
+            Some(file) => write_all(file, at, bytes),
+            None => Err(io::Error::from(ErrorKind::NotFound)),
+        };
+        self.answer(done)
+    }
+
+    fn sync(&mut self, claim: u32) -> Result<(), DiskFault> {
+        if claim < self.held {
+            return Err(DiskFault::Fenced { held: self.held });
+        }
+        self.open()?;
+        let done = match &self.file {
+            Some(file) => file.sync_data(),
+            None => Ok(()),
+        };
+        self.answer(done)?;
+        self.sync_folder()
+    }
+
+    fn claim(&mut self, number: u32) -> Result<(), DiskFault> {
+        if number < self.held {
+            return Err(DiskFault::Fenced { held: self.held });
+        }
+        self.open()?;
+        self.held = number;
+        Ok(())
+    }
+}
+
+fn open_file<R: Files>(runtime: &R, path: &str, is_made: bool) -> io::Result<R::File> {
+    let mut options = OpenOptions::new();
+    options.read(true).write(true).create(is_made);
+    options.open(runtime, path)
+}
+
+fn sync_parent<R: Files>(runtime: &R, path: &str) -> io::Result<()> {
+    let folder = match Path::new(path).parent() {
+        Some(parent) if !parent.as_str().is_empty() => parent.as_str(),
+        _ => ".",
+    };
+    let mut options = OpenOptions::new();
+    options.read(true);
+    options.open(runtime, folder)?.sync_all()
+}
+
+/// Reads all bytes; those behind the file's end are 0.
+fn read_all<F: FileExt>(file: &F, at: u64, into: &mut [u8]) -> io::Result<()>
+    requires { at + length into.old < 2 ^ 64 }
+{
+    let mut done = 0;
+    while done < into.len() {
+        let got = file.read_at(&mut into[done..], at + done as u64)?;
+        if got == 0 {
+            into[done..].fill(0);
+            return Ok(());
+        }
+        done += got;
+    }
+    Ok(())
+}
+
+fn write_all<F: FileExt>(file: &F, at: u64, bytes: &[u8]) -> io::Result<()>
+    requires { at + length bytes.now < 2 ^ 64 }
+{
+    let mut done = 0;
+    while done < bytes.len() {
+        let put = file.write_at(&bytes[done..], at + done as u64)?;
+        if put == 0 {
+            return Err(io::Error::from(ErrorKind::WriteZero));
+        }
+        done += put;
+    }
+    Ok(())
+}
