@@ -41,7 +41,7 @@ filled-outside (r ∷ rs) bytes image within i free =
     let part : r.at + length (take r.len bytes) ≤ length image = omega (arith, within.0, length-part r bytes) in
     let size : length (overlay image r.at (take r.len bytes)) ≡ length image = length-overlay image r.at (take r.len bytes) part in
     let rest : AreWithin (length (overlay image r.at (take r.len bytes))) rs = (let P : ℕ → Type 0 = λ k. AreWithin k rs in subst P (sym size) within.1) in
-    let out : (i < r.at) ⊎ (r.at + length (take r.len bytes) ≤ i) = elim free.0 [ | inl below ↦ inl below | inr above ↦ inr (omega (arith, above, length-part r bytes)) ] in
+    let out : (i < r.at) ⊎ (r.at + length (take r.len bytes) ≤ i) = elim free.0 [ inl below ↦ inl below | inr above ↦ inr (omega (arith, above, length-part r bytes)) ] in
     filled-outside rs (drop r.len bytes) (overlay image r.at (take r.len bytes)) rest i free.1
     ∙ (overlay_same image r.at (take r.len bytes) part).each i out
 

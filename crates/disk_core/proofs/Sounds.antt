@@ -63,19 +63,19 @@ sound-push marked present notes n store store' more left left' sound longer with
 pub noted-push : (marked present : Moment) (notes : List Note) (n : Note) (store store' more : List ℕ) (left len faults awaits : ℕ)
     → IsSound marked present notes store left → store' ≡ store ++ more
     → memory marked (after store' n present) (notes ++ n ∷ []) store' (left - len) faults awaits
-      ≡ noted (after store' n present) len (memory marked present notes store left faults awaits)
+    ≡ noted (after store' n present) len (memory marked present notes store left faults awaits)
 noted-push marked present notes n store store' more left len faults awaits sound longer =
     let old : replay store' notes marked ≡ present = rw longer (replay-longer (length present.seen) store more notes marked sound.notes_within ∙ sound.replayed) in
     let before : befores store' notes marked ≡ befores store notes marked = rw longer (befores-longer (length present.seen) store more notes marked sound.notes_within) in
     let past : befores store' (notes ++ n ∷ []) marked ≡ befores store notes marked ++ present ∷ [] =
-        befores-push store' notes n marked ∙ ap (λ m. befores store' notes marked ++ m ∷ []) old ∙ ap (λ ms. ms ++ present ∷ []) before in
+    befores-push store' notes n marked ∙ ap (λ m. befores store' notes marked ++ m ∷ []) old ∙ ap (λ ms. ms ++ present ∷ []) before in
     let calls : 4096 - (length marked.pending + length (notes ++ n ∷ [])) ≡ 4096 - (length marked.pending + length notes) - 1 = omega (arith, length-append notes (n ∷ [])) in
     cc (past, calls)
 
 pub noted-plain : (marked present : Moment) (notes : List Note) (n : Note) (store : List ℕ) (left faults awaits : ℕ)
     → IsSound marked present notes store left → IsPlain n
     → memory marked (after store n present) (notes ++ n ∷ []) store left faults awaits
-      ≡ noted (after [] n present) 0 (memory marked present notes store left faults awaits)
+    ≡ noted (after [] n present) 0 (memory marked present notes store left faults awaits)
 noted-plain marked present notes n store left faults awaits sound plain =
     let one = noted-push marked present notes n store store [] left 0 faults awaits sound (sym (append-nil store)) in
     let same : left - 0 ≡ left = omega arith in
@@ -125,7 +125,7 @@ replay-next store notes i d m next whole below step e within room =
 pub after-written : (store bytes : List ℕ) (at len from : ℕ) (m : Moment) → from ≡ length store → after (store ++ bytes) (Wrote at len from (length bytes)) m ≡ written at bytes len m
 after-written store bytes at len from m is =
     let part : take (length bytes) (drop from (store ++ bytes)) ≡ bytes =
-        rw is (ap (λ xs. take (length bytes) xs) (drop-append_seam store bytes) ∙ take_all (length bytes) bytes (omega arith)) in
+    rw is (ap (λ xs. take (length bytes) xs) (drop-append_seam store bytes) ∙ take_all (length bytes) bytes (omega arith)) in
     ap (λ xs. written at xs len m) part
 
 pub wrote-total : (pending : List Span) (at len : ℕ) → total (pending ++ record { at = at; len = len } ∷ []) ≡ total pending + len
@@ -136,7 +136,7 @@ wrote-total pending at len =
 pub noted-written : (marked present : Moment) (notes : List Note) (store bytes : List ℕ) (at len from left faults awaits : ℕ)
     → IsSound marked present notes store left → from ≡ length store
     → memory marked (after (store ++ bytes) (Wrote at len from (length bytes)) present) (notes ++ Wrote at len from (length bytes) ∷ []) (store ++ bytes) (left - len) faults awaits
-      ≡ noted (written at bytes len present) len (memory marked present notes store left faults awaits)
+    ≡ noted (written at bytes len present) len (memory marked present notes store left faults awaits)
 noted-written marked present notes store bytes at len from left faults awaits sound is =
     let one = noted-push marked present notes (Wrote at len from (length bytes)) store (store ++ bytes) bytes left len faults awaits sound refl in
     let same = after-written store bytes at len from present is in

@@ -30,7 +30,9 @@ pub struct FileDisk<'a, R: Files> {
 
 impl<'a, R: Files> Model for FileDisk<'a, R> {
     ghost use Rattle.disk_core.specs.Files.{FileState};
+
     ghost Value = { FileState };
+
     ghost view = { λ d. record { held = d.held; faults = d.faults } };
 }
 
@@ -125,8 +127,11 @@ where
     R::File: FileExt,
 {
     ghost use Rattle.disk_core.specs.Files.{file_view};
+
     ghost view = { file_view };
+
     ghost use Rattle.std.proofs.Common.{rules};
+
     ghost whole = { Prim.search rules };
 
     fn size(&self) -> u64 {

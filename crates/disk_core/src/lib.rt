@@ -9,6 +9,8 @@ pub mod mem_disk;
 pub mod note;
 mod snapshot;
 pub mod span;
+#[cfg(test)]
+mod tests;
 
 pub use crash_disk::CrashDisk;
 pub use disk::Disk;

@@ -27,19 +27,21 @@ pub struct MemDisk {
 impl Model for MemDisk {
     ghost use Rattle.std.specs.Prelude.{◌+◌, ◌-◌, length, vec_capacity};
     ghost use Rattle.disk_core.specs.Notes.{Memory, IsSound, HasCapacity, befores};
+
     ghost Value = { Memory };
+
     ghost view = { λ d. record {
-        current = d.present;
-        past = befores d.store.items d.notes.items d.marked;
-        faults = d.faults;
-        awaits = d.awaits;
-        calls_left = 4096 - (length d.marked.pending + length d.notes.items);
-        bytes_left = d.bytes_left;
+      current = d.present;
+      past = befores d.store.items d.notes.items d.marked;
+      faults = d.faults;
+      awaits = d.awaits;
+      calls_left = 4096 - (length d.marked.pending + length d.notes.items);
+      bytes_left = d.bytes_left;
     } };
+
     ghost invariant = { λ d.
         IsSound d.marked d.present d.notes.items d.store.items d.bytes_left
-        × HasCapacity (vec_capacity d.notes) (vec_capacity d.store) (length d.present.seen)
-    };
+        × HasCapacity (vec_capacity d.notes) (vec_capacity d.store) (length d.present.seen) };
 }
 
 impl MemDisk {
@@ -50,12 +52,12 @@ impl MemDisk {
     /// A disk of zeros without a claim. All the memory that it will need is taken here.
     pub fn new(alloc: Global, size: u64) -> Result<MemDisk, AllocError>
         ensures { IfOk result (λ d. d ≡ record {
-            current = record { seen = replicate size 0; pending = []; held = 0 };
-            past = [];
-            faults = 0;
-            awaits = 0;
-            calls_left = 4096;
-            bytes_left = size;
+          current = record { seen = replicate size 0; pending = []; held = 0 };
+          past = [];
+          faults = 0;
+          awaits = 0;
+          calls_left = 4096;
+          bytes_left = size;
         }) }
     {
         let marked = Snapshot::new(alloc, size as usize)?;
@@ -159,7 +161,9 @@ impl MemDisk {
 impl Disk for MemDisk {
     ghost use Rattle.disk_core.specs.Notes.{view_of};
     ghost use Rattle.std.specs.Prelude.{refl};
+
     ghost view = { view_of };
+
     ghost whole = { λ d tells. refl };
 
     fn size(&self) -> u64 {
@@ -193,7 +197,7 @@ impl Disk for MemDisk {
 
     fn sync(&mut self, claim: u32) -> Result<(), DiskFault> {
         let is_awaited = self.count_call();
-        if claim < self.held() {
+        if self.held() > claim {
             return Err(self.fence());
         }
         if !self.has_room(0) {

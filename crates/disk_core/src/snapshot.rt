@@ -19,8 +19,11 @@ pub struct Snapshot {
 impl Model for Snapshot {
     ghost use Rattle.std.specs.Prelude.{◌≤◌, vec_capacity};
     ghost use Rattle.disk_core.specs.Images.{Moment};
+
     ghost Value = { Moment };
+
     ghost view = { λ s. record { seen = s.image.items; pending = s.pending.items; held = s.held } };
+
     ghost invariant = { λ s. 4096 ≤ vec_capacity s.pending };
 }
 

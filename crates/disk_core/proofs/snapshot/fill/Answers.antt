@@ -16,7 +16,7 @@ loop-span-preserved c =
     let i = c.loop-span.invariant in
     let none : Span = record { at = 0; len = 0 } in
     let next = fill-turn c.args.pending.now c.loop-span.span-index none c.loop-span.rest.now _ _ c.loop-span.image.items c.put.new.image.items _ c.min-count.result
-        c.loop-span-test.true c.min-count.ensures c.split_at.ensures.front c.split_at.ensures.back c.put.ensures i.filled_so_far i.within in
+    c.loop-span-test.true c.min-count.ensures c.split_at.ensures.front c.split_at.ensures.back c.put.ensures i.filled_so_far i.within in
     record { filled_so_far = next.0; within = next.1 }
 
 pub returns : goal.returns

@@ -15,8 +15,9 @@ invariant_of-self c =
     let size = after-size (length i.store.items) i.store.items c.args.note i.present refl within in
     rw (c.push_note.ensures.items, c.apply.ensures) (
       sound-push i.marked i.present i.notes.items c.args.note i.store.items i.store.items [] i.bytes_left i.bytes_left sound (sym (append-nil i.store.items)) within room
-        (omega arith) (omega (arith, plain-total i.store.items c.args.note i.present c.requires.plain, sound.bytes)),
-      record { notes_room = omega (arith, c.self.invariant.1.notes_room, c.push_note.ensures.room_kept); store_room = omega (arith, c.self.invariant.1.store_room, size) })
+          (omega arith) (omega (arith, plain-total i.store.items c.args.note i.present c.requires.plain, sound.bytes)),
+      record { notes_room = omega (arith, c.self.invariant.1.notes_room, c.push_note.ensures.room_kept); store_room = omega (arith, c.self.invariant.1.store_room, size) },
+    )
 
 pub returns : goal.returns
 returns c =

@@ -32,7 +32,8 @@ invariant_of-self c =
     let size = c.size-self-inside.ensures ∙ ap (λ m. length m.seen) c.copy_from.ensures ∙ ap (λ m. length m.seen) c.settle.ensures in
     rw (c.copy_from.ensures, c.clear.ensures.items, c.clear-2.ensures.items, c.settle.ensures) (
       sound-marked (after_crash c.replay.new.self c.args.bytes.now) c.size-self-inside.result tt (omega arith) (omega (arith, size)),
-      record { notes_room = omega (arith, c.self.invariant.1.notes_room, c.clear.ensures.capacity); store_room = omega (arith, c.self.invariant.1.store_room, c.clear-2.ensures.capacity, filled_size) })
+      record { notes_room = omega (arith, c.self.invariant.1.notes_room, c.clear.ensures.capacity); store_room = omega (arith, c.self.invariant.1.store_room, c.clear-2.ensures.capacity, filled_size) },
+    )
 
 pub returns : goal.returns
 unfolding befores
@@ -40,5 +41,5 @@ returns c =
     let i = c.self.inside in
     let count : c.min-calls.result ≡ min (length i.notes.items) c.args.moment = c.min-calls.ensures ∙ ap (λ n. min n c.args.moment) (omega (arith, c.len.ensures)) in
     rw (c.clear.ensures.items, c.copy_from.ensures, ← c.self.view_is)
-      (is_crashed i.marked i.present c.replay.new.self c.settle.new.self i.notes.items i.store.items c.args.bytes.now i.bytes_left i.faults i.awaits c.min-calls.result c.args.moment c.size-self-inside.result
-        c.self.invariant.0 count (rw c.deref.ensures.value at c.replay.ensures) c.settle.ensures (c.size-self-inside.ensures ∙ ap (λ m. length m.seen) c.copy_from.ensures))
+    (is_crashed i.marked i.present c.replay.new.self c.settle.new.self i.notes.items i.store.items c.args.bytes.now i.bytes_left i.faults i.awaits c.min-calls.result c.args.moment c.size-self-inside.result
+    c.self.invariant.0 count (rw c.deref.ensures.value at c.replay.ensures) c.settle.ensures (c.size-self-inside.ensures ∙ ap (λ m. length m.seen) c.copy_from.ensures))
