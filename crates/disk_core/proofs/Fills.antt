@@ -1,8 +1,8 @@
 -- One pending range after the other is filled.
-use Rattle.std.proofs.Common.{◌≡◌, ℕ, ◌+◌, ◌-◌, ◌<◌, ◌≤◌, ◌⊎◌, inl, inr, List, [], ◌∷◌, ◌++◌, length, take, drop, min, get_or, refl, sym, ap, ◌∙◌, subst, arith, length-append, length-drop}
-use Rattle.std.proofs.lemmas.List.{drop_more, drop_all, take_min, drop_min, length-take}
+use Rattle.std.proofs.Common.{◌≡◌, ℕ, ◌+◌, ◌<◌, ◌≤◌, ◌⊎◌, inl, inr, List, [], ◌∷◌, length, take, drop, min, get_or, refl, sym, ◌∙◌, subst, arith}
+use Rattle.std.proofs.lemmas.List.{drop_more, take_min, drop_min, length-take}
 use Rattle.disk_core.specs.declared.span.Span.{Span}
-use Rattle.disk_core.specs.Images.{Moment, IsFree, IsImage, SameOutside, overlay}
+use Rattle.disk_core.specs.Images.{Moment, IsFree, IsImage, overlay}
 use Rattle.disk_core.specs.Crashes.{filled, after_crash}
 use Rattle.disk_core.specs.Notes.{AreWithin}
 use Rattle.disk_core.proofs.Overlays.{length-overlay, overlay_same}

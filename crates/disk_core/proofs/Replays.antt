@@ -1,11 +1,11 @@
 -- How moments come back from notes.
-use Rattle.std.proofs.Common.{◌≡◌, ℕ, zero, suc, ◌+◌, ◌-◌, ◌<◌, ◌≤◌, ◌⊎◌, inl, inr, List, [], ◌∷◌, ◌++◌, length, take, drop, min, get_or, refl, sym, ap, ◌∙◌, subst, arith, append_assoc, length-append, length-drop}
-use Rattle.std.proofs.lemmas.List.{append-nil, take-append-le, drop-append-le, take-append-drop, length-take-le}
+use Rattle.std.proofs.Common.{◌≡◌, ℕ, zero, suc, ◌+◌, ◌≤◌, List, [], ◌∷◌, ◌++◌, length, take, drop, get_or, refl, sym, ap, ◌∙◌, subst, arith, length-drop}
+use Rattle.std.proofs.lemmas.List.{take-append-le, drop-append-le, length-take-le}
 use Rattle.disk_core.specs.declared.span.Span.{Span}
 use Rattle.disk_core.specs.declared.note.Note.{Note}
 use Rattle.disk_core.specs.declared.note.Note.TheVariants.{Wrote, Synced, Claimed, Nothing}
 use Rattle.disk_core.specs.Images.{Moment, overlay}
-use Rattle.disk_core.specs.Notes.{after, replay, befores, IsNoteWithin, AreNotesWithin, AreWithin, IsPlain, IsSound}
+use Rattle.disk_core.specs.Notes.{after, replay, befores, IsNoteWithin, AreNotesWithin, AreWithin, IsPlain}
 use Rattle.disk_core.proofs.Overlays.{length-overlay}
 
 -- one note more

@@ -1,12 +1,12 @@
 -- What marks and crashes of a disk in memory leave.
-use Rattle.std.proofs.Common.{◌≡◌, ℕ, ◌+◌, ◌-◌, ◌<◌, ◌≤◌, List, [], ◌∷◌, ◌++◌, length, take, drop, min, get_or, refl, sym, ap, ◌∙◌, subst, arith}
+use Rattle.std.proofs.Common.{◌≡◌, ℕ, ◌+◌, ◌-◌, ◌≤◌, List, [], ◌∷◌, ◌++◌, length, take, min, get_or, refl, sym, ap, ◌∙◌, subst, arith}
 use Rattle.disk_core.specs.declared.note.Note.{Note}
 use Rattle.disk_core.specs.Images.{Moment, IsImage, total}
 use Rattle.disk_core.specs.Crashes.{Marked, Crashed, after_crash, moment_at}
-use Rattle.disk_core.specs.Notes.{replay, befores, AreNotesWithin, AreWithin, IsSound, Memory, view_of}
+use Rattle.disk_core.specs.Notes.{replay, befores, AreWithin, IsSound, view_of}
 use Rattle.disk_core.proofs.Fills.{filled-size, crash_image}
 use Rattle.disk_core.proofs.Replays.{length-befores, moment-replayed, replay-size, replay-ranges, within-take}
-use Rattle.disk_core.proofs.Sounds.{memory, sound-marked}
+use Rattle.disk_core.proofs.Sounds.{memory}
 
 pub is_marked : (marked present m : Moment) (notes : List Note) (store : List ℕ) (left faults awaits size pending : ℕ)
     → m ≡ present → size ≡ length present.seen → pending ≡ total present.pending

@@ -1,12 +1,12 @@
 -- A disk in memory stays sound from call to call.
-use Rattle.std.proofs.Common.{◌≡◌, ℕ, ◌+◌, ◌-◌, ◌<◌, ◌≤◌, List, [], ◌∷◌, ◌++◌, length, take, drop, replicate, get_or, refl, sym, ap, ◌∙◌, subst, arith, length-append, length-drop}
-use Rattle.std.proofs.lemmas.List.{append-nil, drop_more, drop_all, length-replicate, take_all}
+use Rattle.std.proofs.Common.{◌≡◌, ℕ, ◌+◌, ◌-◌, ◌<◌, ◌≤◌, List, [], ◌∷◌, ◌++◌, length, take, drop, replicate, get_or, refl, sym, ap, ◌∙◌, subst, arith, length-append}
+use Rattle.std.proofs.lemmas.List.{append-nil, drop_more, length-replicate, take_all}
 use Rattle.std.proofs.Math.Seq.{drop-append_seam}
 use Rattle.std.proofs.lemmas.List.Sums.{sum_by-append}
 use Rattle.disk_core.specs.declared.span.Span.{Span}
 use Rattle.disk_core.specs.declared.note.Note.{Note}
 use Rattle.disk_core.specs.declared.note.Note.TheVariants.{Wrote, Synced, Claimed, Nothing}
-use Rattle.disk_core.specs.Images.{Moment, overlay, total}
+use Rattle.disk_core.specs.Images.{Moment, total}
 use Rattle.disk_core.specs.Notes.{after, replay, befores, IsNoteWithin, AreNotesWithin, AreWithin, IsPlain, IsSound, Memory, noted, written}
 use Rattle.disk_core.proofs.Replays.{replay-push, befores-push, replay-longer, befores-longer, within-longer, within-push, after-size, after-ranges, after-plain}
 

@@ -1,9 +1,8 @@
 -- The calls of a disk: what each does to its meaning.
-use Rattle.std.specs.Prelude.{◌≡◌, ℕ, ◌+◌, ◌-◌, ◌/◌, ◌<◌, ◌≤◌, ◌⊎◌, Bool, IsTrue, IsFalse, ◌==◌, ◌||◌, ◌&&◌, not, nat_lt, if◌then◌else◌, MatchBool, List, [], ◌∷◌, ◌++◌, length, take, Option, Some, None, MatchOption, Result, Ok, Err, IsOk, ⊤}
+use Rattle.std.specs.Prelude.{◌≡◌, ℕ, ◌-◌, ◌/◌, ◌<◌, ◌≤◌, ◌⊎◌, Bool, IsTrue, IsFalse, ◌==◌, ◌||◌, ◌&&◌, not, nat_lt, if◌then◌else◌, MatchBool, List, [], ◌∷◌, ◌++◌, length, take, Some, MatchOption, Result, Ok, Err, IsOk, ⊤}
 use Rattle.causes.specs.Counts.{Rose}
 use Rattle.disk_core.specs.declared.fault.DiskFault.{DiskFault}
 use Rattle.disk_core.specs.declared.fault.DiskFault.TheVariants.{Failed, Fenced}
-use Rattle.disk_core.specs.declared.span.Span.{Span}
 use Rattle.disk_core.specs.Images.{Moment, Has, SameOutside}
 use Rattle.disk_core.specs.Views.{DiskView, Plan, moments}
 

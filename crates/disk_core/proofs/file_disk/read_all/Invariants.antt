@@ -1,4 +1,4 @@
-use Rattle.std.proofs.Common.{ℕ, ◌-◌, ◌≤◌, length}
+use Rattle.std.proofs.Common.{◌-◌, ◌≤◌, length}
 use Rattle.disk_core.proofs.file_disk.read_all.Given as goal
 
 abbrev pub invariant-loop-done : goal.invariant-loop-done

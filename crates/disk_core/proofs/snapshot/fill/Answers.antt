@@ -1,4 +1,4 @@
-use Rattle.std.proofs.Common.{◌≡◌, ◌+◌, ◌-◌, ◌<◌, ◌≤◌, length, take, drop, min, arith}
+use Rattle.std.proofs.Common.{length, arith}
 use Rattle.std.proofs.lemmas.List.{drop_all, length-take}
 use Rattle.disk_core.specs.declared.span.Span.{Span}
 use Rattle.disk_core.specs.Crashes.{filled}

@@ -1,5 +1,4 @@
-use Rattle.std.proofs.Common.{◌≡◌, ◌+◌, ◌<◌, ◌≤◌, ◌^◌, [], ◌∷◌, ◌++◌, length, take, drop, replicate, vec_capacity, IfOk, ℕ, ◌-◌, ◌*◌}
-use Rattle.disk_core.specs.Images.{overlay}
+use Rattle.std.proofs.Common.{◌≡◌, length, drop}
 use Rattle.disk_core.specs.Crashes.{filled}
 use Rattle.disk_core.specs.Notes.{AreWithin}
 use Rattle.disk_core.proofs.snapshot.fill.Given as goal

@@ -1,6 +1,6 @@
-use Rattle.std.proofs.Common.{◌≡◌, ◌+◌, ◌-◌, ◌<◌, ◌≤◌, [], ◌++◌, length, refl, sym, ap, ◌∙◌, arith}
+use Rattle.std.proofs.Common.{◌+◌, ◌<◌, [], length, refl, sym, ap, arith}
 use Rattle.std.proofs.lemmas.List.{append-nil}
-use Rattle.disk_core.specs.Notes.{Memory, after, noted, IsNoteWithin}
+use Rattle.disk_core.specs.Notes.{Memory}
 use Rattle.disk_core.proofs.Replays.{after-size}
 use Rattle.disk_core.proofs.Sounds.{sound-push, noted-plain, plain-within, plain-total}
 use Rattle.disk_core.proofs.mem_disk.MemDisk.note.Goals as goal

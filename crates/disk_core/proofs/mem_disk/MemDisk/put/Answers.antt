@@ -1,6 +1,6 @@
-use Rattle.std.proofs.Common.{◌≡◌, ℕ, ◌+◌, ◌-◌, ◌<◌, ◌≤◌, [], ◌∷◌, ◌++◌, length, take, drop, refl, sym, ap, ◌∙◌, arith, length-append}
+use Rattle.std.proofs.Common.{◌+◌, ◌-◌, ◌<◌, ◌++◌, length, refl, ap, arith, length-append}
 use Rattle.disk_core.specs.declared.note.Note.TheVariants.{Wrote}
-use Rattle.disk_core.specs.Notes.{Memory, after, noted, IsNoteWithin}
+use Rattle.disk_core.specs.Notes.{Memory, IsNoteWithin}
 use Rattle.disk_core.proofs.Replays.{after-size}
 use Rattle.disk_core.proofs.Sounds.{sound-push, noted-written, wrote-total}
 use Rattle.disk_core.proofs.mem_disk.MemDisk.put.Goals as goal

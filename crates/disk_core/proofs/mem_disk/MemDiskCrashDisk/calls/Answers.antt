@@ -1,4 +1,4 @@
-use Rattle.std.proofs.Common.{◌≡◌, length, arith, ap}
+use Rattle.std.proofs.Common.{length, arith, ap}
 use Rattle.disk_core.specs.Notes.{Memory}
 use Rattle.disk_core.proofs.Replays.{length-befores}
 use Rattle.disk_core.proofs.mem_disk.MemDiskCrashDisk.calls.Goals as goal

@@ -1,5 +1,5 @@
-use Rattle.std.proofs.Common.{◌≡◌, ℕ, ◌+◌, ◌-◌, ◌≤◌, length, take, min, sym, ap, ◌∙◌, arith}
-use Rattle.disk_core.specs.Notes.{AreNotesWithin, befores, replay}
+use Rattle.std.proofs.Common.{◌≡◌, length, min, ap, ◌∙◌, arith}
+use Rattle.disk_core.specs.Notes.{befores}
 use Rattle.disk_core.specs.Crashes.{after_crash}
 use Rattle.disk_core.proofs.Fills.{filled-size}
 use Rattle.disk_core.proofs.Replays.{within-take}

@@ -1,4 +1,4 @@
-use Rattle.std.proofs.Common.{◌≡◌, ℕ, ◌+◌, ◌-◌, ◌≤◌, length, ◌∙◌, arith}
+use Rattle.std.proofs.Common.{◌-◌, ◌∙◌, arith}
 use Rattle.disk_core.specs.Notes.{befores}
 use Rattle.disk_core.proofs.Sounds.{sound-marked}
 use Rattle.disk_core.proofs.Returning.{is_marked}

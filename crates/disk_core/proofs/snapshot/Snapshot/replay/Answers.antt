@@ -1,4 +1,4 @@
-use Rattle.std.proofs.Common.{◌≡◌, ◌+◌, ◌-◌, ◌<◌, ◌≤◌, length, drop, arith}
+use Rattle.std.proofs.Common.{arith}
 use Rattle.std.proofs.lemmas.List.{drop_more, drop_all}
 use Rattle.disk_core.specs.declared.note.Note.TheVariants.{Wrote}
 use Rattle.disk_core.specs.Notes.{replay}

@@ -1,7 +1,5 @@
-use Rattle.std.proofs.Common.{◌≡◌, ◌+◌, ◌<◌, ◌≤◌, ◌^◌, [], ◌∷◌, ◌++◌, length, take, drop, replicate, vec_capacity, IfOk, ℕ, ◌-◌, ◌*◌}
-use Rattle.disk_core.specs.Images.{overlay, total}
-use Rattle.disk_core.specs.Crashes.{filled, after_crash}
-use Rattle.disk_core.specs.Notes.{AreWithin, after, replay, IsNoteWithin, AreNotesWithin}
+use Rattle.std.proofs.Common.{◌≡◌, ◌+◌, ◌≤◌, length, drop, ◌-◌}
+use Rattle.disk_core.specs.Notes.{replay, AreNotesWithin}
 use Rattle.disk_core.proofs.snapshot.Snapshot.replay.Given as goal
 
 abbrev pub invariant-loop-note : goal.invariant-loop-note
