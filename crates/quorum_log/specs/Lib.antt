@@ -1,0 +1,6 @@
+pub mod Layout
+pub mod Image
+pub mod Checks
+pub mod Faults
+pub mod Logs
+pub mod Changes
