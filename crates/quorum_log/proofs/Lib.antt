@@ -1,3 +1,5 @@
 pub mod Moments
 pub mod Places
 pub mod Kept
+pub mod Appends
+pub mod Appended

@@ -3,6 +3,7 @@ use Rattle.std.proofs.Common.{◌≡◌, ℕ, ◌+◌, ◌-◌, ◌<◌, ◌≤�
 use Rattle.std.specs.Prelude.{⊤}
 use Rattle.std.proofs.lemmas.List.{append-nil, ext_get_or}
 use Rattle.std.specs.List.{AllByRecursion}
+use Rattle.causes.specs.Counts.{Rose}
 use Rattle.disk_core.specs.declared.fault.DiskFault.{DiskFault}
 use Rattle.disk_core.specs.declared.fault.DiskFault.TheVariants.{Failed, Fenced}
 use Rattle.disk_core.specs.declared.span.Span.{Span}
@@ -147,3 +148,51 @@ Carries n [] = Unit {0}
 Carries n (write m at bytes ∷ cs) = (m ≡ n) × Carries n cs
 Carries n (sync m ∷ cs) = (m ≡ n) × Carries n cs
 Carries n (claim m ∷ cs) = ⊥
+
+ok_answer : (n : ℕ) (v w : DiskView) (result : Result ⊤ DiskFault) → IsOk result → v.current.held ≤ n → AnsweredBy n v result w
+ok_answer n v w (Ok ok) is held = held
+ok_answer n v w (Err e) is held = cc
+
+step_held : (n : ℕ) (c : Call) (v w : DiskView) (ok : ⊤) → Carries n (c ∷ []) → Step c v (Ok ok) w → (v.current.held ≤ n) × (w.current.held ≡ v.current.held)
+step_held n (write m at bytes) v w ok carried step = (rw (← carried.0) step.answer.0, step.answer.1)
+step_held n (sync m) v w ok carried step = (rw (← carried.0) step.answer.0, step.answer.1)
+step_held n (claim m) v w ok carried step = absurd carried
+
+step_refused : (n : ℕ) (c : Call) (v w : DiskView) (e : DiskFault) → Carries n (c ∷ []) → Step c v (Err e) w → AnsweredBy n v (Err e) w
+step_refused n (write m at bytes) v w Failed carried step = (rw (← carried.0) step.answer.0, step.answer.1)
+step_refused n (write m at bytes) v w (Fenced held) carried step = (rw (← carried.0) step.answer.0, step.answer.1)
+step_refused n (sync m) v w Failed carried step = (rw (← carried.0) step.answer.0, step.answer.1)
+step_refused n (sync m) v w (Fenced held) carried step = (rw (← carried.0) step.answer.0, step.answer.1)
+step_refused n (claim m) v w e carried step = absurd carried
+
+carries_first : (n : ℕ) (c : Call) (cs : List Call) → Carries n (c ∷ cs) → Carries n (c ∷ []) × Carries n cs
+carries_first n (write m at bytes) cs carried = ((carried.0, tt), carried.1)
+carries_first n (sync m) cs carried = ((carried.0, tt), carried.1)
+carries_first n (claim m) cs carried = absurd carried
+
+rose_before : (a b c : ℕ) → a ≤ b → Rose b c → Rose a c
+rose_before a b c later rose = omega arith
+
+-- an answer to later calls is one to all of them
+answered_before : (n : ℕ) (v u w : DiskView) (result : Result ⊤ DiskFault) → v.current.held ≤ n → u.current.held ≡ v.current.held → v.faults ≤ u.faults → AnsweredBy n u result w → AnsweredBy n v result w
+answered_before n v u w (Ok ok) held same later a = held
+answered_before n v u w (Err Failed) held same later a = (held, rose_before v.faults u.faults w.faults later a.1)
+answered_before n v u w (Err (Fenced token)) held same later a = (rw same at a.0, a.1 ∙ same)
+
+-- The first call that is refused tells why; the token that the disk holds stays.
+pub made_answer : (n : ℕ) (c : Call) (cs : List Call) (v w : DiskView) (result : Result ⊤ DiskFault) → Carries n (c ∷ cs) → Made (c ∷ cs) v result w → AnsweredBy n v result w
+unfolding Made
+made_answer n c [] v w result carried made = elim made [
+  | inl done ↦
+    let held = step_held n c v done.0 done.1.0 carried done.1.1 in
+    ok_answer n v w result done.2.1 held.0
+  | inr refused ↦ (let P : Result ⊤ DiskFault → Type 0 = λ r. AnsweredBy n v r w in subst P (sym refused.2) (step_refused n c v w refused.0 carried refused.1))
+]
+made_answer n c (d ∷ cs) v w result carried made =
+    let parts = carries_first n c (d ∷ cs) carried in
+    elim made [
+      | inl done ↦
+        let held = step_held n c v done.0 done.1.0 parts.0 done.1.1 in
+        answered_before n v done.0 w result held.0 held.1 done.1.1.same.faults (made_answer n d cs done.0 w result parts.1 done.2)
+      | inr refused ↦ (let P : Result ⊤ DiskFault → Type 0 = λ r. AnsweredBy n v r w in subst P (sym refused.2) (step_refused n c v w refused.0 parts.0 refused.1))
+    ]

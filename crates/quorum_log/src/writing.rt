@@ -1,5 +1,5 @@
 //! Calls on the disk that several changes of a log share, each list of them a function of its own.
-ghost use Rattle.std.specs.Prelude.{◌≡◌, ◌+◌, ◌≤◌, [], ◌∷◌, length};
+ghost use Rattle.std.specs.Prelude.{◌≡◌, ◌+◌, ◌≤◌, [], ◌∷◌, ◌++◌, length, take};
 ghost use Rattle.disk_core.specs.Calls.{Made, write, sync, claim};
 
 use disk_core::{Disk, DiskFault};
@@ -48,4 +48,16 @@ pub(crate) fn write_then_commit<D: Disk>(
     disk.write(number, commit, &[1])?;
     disk.sync(number)?;
     Ok(())
+}
+
+/// Puts the bytes behind the first `done` bytes of the buffer, and tells how many are there then.
+pub(crate) fn add(buffer: &mut Vec<u8>, done: usize, bytes: &[u8]) -> usize
+    requires { done + length bytes.now ≤ length buffer.old.items }
+    ensures count { result ≡ done + length bytes.now }
+    ensures text { take (done + length bytes.now) buffer.new.items ≡ take done buffer.old.items ++ bytes.now }
+    ensures size { length buffer.new.items ≡ length buffer.old.items }
+{
+    let end = done + bytes.len();
+    buffer[done..end].copy_from_slice(bytes);
+    end
 }
