@@ -3,3 +3,4 @@ pub mod Places
 pub mod Kept
 pub mod Appends
 pub mod Appended
+pub mod Scans

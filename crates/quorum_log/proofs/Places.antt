@@ -1,6 +1,6 @@
 -- Numbers and bytes by their place: what keeps them, and what is read of what was written.
-use Rattle.std.proofs.Common.{◌≡◌, ℕ, zero, suc, ◌+◌, ◌-◌, ◌*◌, ◌<◌, ◌≤◌, ◌⊎◌, inl, inr, ◌^◌, List, [], ◌∷◌, ◌++◌, length, take, drop, get_or, refl, sym, ap, ◌∙◌, subst, arith, length-append}
-use Rattle.std.proofs.lemmas.List.{get_or_append_left, get_or-append-add, get_or-drop, get_or-take, append-nil}
+use Rattle.std.proofs.Common.{◌≡◌, ℕ, zero, suc, ◌+◌, ◌-◌, ◌*◌, ◌<◌, ◌≤◌, ◌⊎◌, inl, inr, ◌^◌, List, [], ◌∷◌, ◌++◌, length, take, drop, get_or, refl, sym, ap, ◌∙◌, subst, arith, length-append, length-drop}
+use Rattle.std.proofs.lemmas.List.{get_or_append_left, get_or-append-add, get_or-drop, get_or-take, append-nil, length-take-le}
 use Rattle.byteorder.specs.Endian.{little_from, little_bytes, little_number}
 use Rattle.byteorder.specs.Numbers.{little_number-reads_back, length-bytes_low_first}
 use Rattle.wire_fields.specs.declared.endian.Endian.{Endian}
@@ -108,3 +108,16 @@ within_part from to from' to' old new same low high i a b = same i (omega arith)
 
 pub within_trans : (from to : ℕ) (a b c : List ℕ) → SameWithin from to a b → SameWithin from to b c → SameWithin from to a c
 within_trans from to a b c p q i low high = q i low high ∙ p i low high
+
+pub length-window : (image : List ℕ) (at count : ℕ) → length (window image at count) ≡ count
+unfolding window
+length-window image at zero = refl
+length-window image at (suc count) = ap suc (length-window image (at + 1) count)
+
+-- the bytes of a slice
+pub window_is : (image : List ℕ) (at count : ℕ) → at + count ≤ length image → take count (drop at image) ≡ window image at count
+window_is image at count within =
+    let long : length (take count (drop at image)) ≡ count = length-take-le count (drop at image) (omega (arith, length-drop at image)) in
+    let same : window image at (length (take count (drop at image))) ≡ take count (drop at image) =
+        has_window image at (take count (drop at image)) (λ k below. sym (get_or-take count (drop at image) k 0 (omega arith) ∙ get_or-drop at image k 0)) in
+    sym same ∙ ap (λ n. window image at n) long

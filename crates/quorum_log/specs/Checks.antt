@@ -87,6 +87,14 @@ abbrev pub BadAt : Option ℕ → OpenFault → Type 0
 BadAt bad (BadImage place) = bad ≡ Some place
 BadAt bad _ = ⊥
 
+-- The lengths in the half that begins there are these, and good.
+pub record AreLengths (image : List ℕ) (cap start state last : ℕ) : Type 0 where
+  pub good : first_bad (length_checks image cap start) ≡ None
+  pub state_is : number_at image (start + 17) 4 ≡ state
+  pub state_most : state ≤ cap
+  pub last_is : number_at image (start + 21) 4 ≡ last
+  pub last_most : last ≤ most_record
+
 abbrev pub RecordsFault : List ℕ → ℕ → ℕ → OpenFault → Type 0
 RecordsFault image end at (BadImage place) = IsBadBehind image end at place
 RecordsFault image end at Memory = Unit {0}

@@ -3,4 +3,5 @@ pub mod Image
 pub mod Checks
 pub mod Faults
 pub mod Logs
+pub mod Opening
 pub mod Changes

@@ -49,3 +49,17 @@ pub record StandsFor (log : LogValue) (v : DiskView) (x : Found) : Type 0 where
   pub records : log.records ≡ length x.records
   pub tail : log.tail ≡ tail_of x
   pub other : log.other_valid ≡ not (slice_index v.current.seen (other_of x) == 0)
+
+-- The value of the log that holds x.
+abbrev pub log_of : ℕ → Found → Bool → LogValue
+log_of claim x other_valid = record {
+  claim = claim;
+  cap = x.cap;
+  half = x.half;
+  version = x.version;
+  generation = x.generation;
+  base = x.base;
+  records = length x.records;
+  tail = tail_of x;
+  other_valid = other_valid;
+}

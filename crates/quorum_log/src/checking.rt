@@ -87,17 +87,20 @@ fn current_half(image: &[u8], cap: u32) -> u8
     if is_next(image, cap, 0) { 0 } else { 1 }
 }
 
-fn check_lengths(image: &[u8], cap: u32, start: u64) -> Result<(), OpenFault>
+/// The lengths of the state and of the last record in the half that begins there.
+fn read_lengths(image: &[u8], cap: u32, start: u64) -> Result<(u64, u64), OpenFault>
     requires { start + 25 ≤ length image.now }
-    ensures { MatchResult result (λ _. checks.first_bad (checks.length_checks image.now cap start) ≡ None) (checks.BadAt (checks.first_bad (checks.length_checks image.now cap start))) }
+    ensures { MatchResult result (λ sizes. checks.AreLengths image.now cap start sizes.0 sizes.1) (checks.BadAt (checks.first_bad (checks.length_checks image.now cap start))) }
 {
-    if read_u32(image, start + 17) > cap {
+    let state = read_u32(image, start + 17);
+    if state > cap {
         return Err(OpenFault::BadImage { place: start + 17 });
     }
-    if read_u32(image, start + 21) as usize > MOST_RECORD {
+    let last = read_u32(image, start + 21);
+    if last as usize > MOST_RECORD {
         return Err(OpenFault::BadImage { place: start + 21 });
     }
-    Ok(())
+    Ok((state as u64, last as u64))
 }
 
 /// Reads the records from that commit byte on.
@@ -147,9 +150,7 @@ fn read_half(alloc: Global, image: &[u8], cap: u32, half: u8) -> Result<Found, O
     ensures { MatchResult result (checks.IsFoundHalf image.now cap half) (checks.HalfFault image.now cap (layout.half_at cap half)) }
 {
     let start = half_at(cap, half);
-    check_lengths(image, cap, start)?;
-    let state_size = read_u32(image, start + 17) as u64;
-    let last_size = read_u32(image, start + 21) as u64;
+    let (state_size, last_size) = read_lengths(image, cap, start)?;
     let last_at = start + 25 + state_size;
     let state = copy(alloc, image, start + 25, state_size)?;
     let last = copy(alloc, image, last_at, last_size)?;

@@ -1,6 +1,8 @@
 //! What an image of a log holds.
-ghost use Rattle.std.specs.Prelude.{◌≡◌};
+ghost use Rattle.std.specs.Prelude.{◌≡◌, ◌<◌, ◌≤◌, ◌^◌};
+ghost use Rattle.quorum_log.specs.Image.{tail_of};
 
+use crate::layout::half_at;
 use std::marker::Model;
 use wire_fields::Octets;
 
@@ -18,6 +20,23 @@ pub struct Found {
     pub last_at: u64,
     pub last: Octets,
     pub records: FoundRecords,
+}
+
+impl Found {
+    /// Where the commit byte behind the records stands.
+    pub(crate) fn tail(&self) -> u64
+        requires half { self.now.half ≤ 1 }
+        requires small { tail_of self.now < 2 ^ 63 }
+        ensures { result ≡ tail_of self.now }
+    {
+        let start = half_at(self.cap, self.half);
+        let mut at = start + 25 + self.state.as_slice().len() as u64 + self.last.as_slice().len() as u64;
+        let records = self.records.as_slice();
+        'records: for record in records {
+            at += 5 + record.bytes.as_slice().len() as u64;
+        }
+        at
+    }
 }
 
 /// A record of an image, and the place where its bytes start.

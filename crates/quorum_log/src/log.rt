@@ -1,7 +1,9 @@
 //! An open log.
 ghost use Rattle.std.specs.Prelude.{◌≡◌, ◌+◌, ◌<◌, IsTrue, ◌↔◌};
 
+use crate::found::Found;
 use crate::layout::{half_at, half_size};
+use std::alloc::{AllocError, Global};
 use std::marker::Model;
 
 /// A log that was opened and can be written.
@@ -48,7 +50,38 @@ impl Model for Log {
 }
 
 impl Log {
-    ghost use Rattle.quorum_log.specs.Logs.{Fits};
+    ghost use Rattle.std.specs.Prelude.{◌≤◌, ◌^◌, IfOk};
+    ghost use Rattle.quorum_log.specs.Image.{tail_of, end_of};
+    ghost use Rattle.quorum_log.specs.Logs.{Fits, log_of};
+
+    /// The log of what was found.
+    pub(crate) fn of(
+        alloc: Global,
+        claim: u32,
+        found: &Found,
+        other_valid: bool,
+    ) -> Result<Log, AllocError>
+        requires cap_least { 4096 ≤ found.now.cap }
+        requires cap_most { found.now.cap ≤ 16_777_216 }
+        requires half { found.now.half ≤ 1 }
+        requires tail { tail_of found.now < end_of found.now }
+        requires end { end_of found.now < 2 ^ 63 }
+        ensures { IfOk result (λ log. log ≡ log_of claim found.now other_valid) }
+    {
+        let buffer = vec![in alloc; 0; found.cap as usize + 57_369]?;
+        Ok(Log {
+            claim,
+            cap: found.cap,
+            half: found.half,
+            version: found.version,
+            generation: found.generation,
+            base: found.base,
+            records: found.records.as_slice().len() as u64,
+            tail: found.tail(),
+            other_valid,
+            buffer,
+        })
+    }
 
     /// The version of the current half, 1 or 2.
     pub fn version(&self) -> u32
