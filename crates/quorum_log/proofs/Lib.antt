@@ -4,3 +4,5 @@ pub mod Kept
 pub mod Appends
 pub mod Appended
 pub mod Scans
+pub mod Halves
+pub mod Transfers

@@ -5,7 +5,7 @@ use Rattle.disk_core.specs.declared.fault.DiskFault.{DiskFault}
 use Rattle.disk_core.specs.declared.fault.DiskFault.TheVariants as disk_faults
 use Rattle.disk_core.specs.Views.{DiskView}
 use Rattle.quorum_log.specs.declared.found.Found.{Found}
-use Rattle.quorum_log.specs.Layout.{half_size, half_at, image_size}
+use Rattle.quorum_log.specs.Layout.{half_size, half_at, most_records}
 use Rattle.quorum_log.specs.Image.{Holds, tail_of, other_of}
 
 pub record LogValue : Type 0 where
@@ -30,6 +30,7 @@ pub record IsSoundLog (log : LogValue) (buffer : ℕ) : Type 0 where
   pub half : (log.half ≡ 0) ⊎ (log.half ≡ 1)
   pub tail_least : half_at log.cap log.half ≤ log.tail
   pub tail_most : log.tail < half_at log.cap log.half + half_size log.cap
+  pub count : log.base + log.records ≤ most_records
   pub room : buffer ≡ log.cap + 57_369
 
 -- A record of that length and the commit byte behind it lie within the half.

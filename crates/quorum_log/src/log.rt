@@ -51,6 +51,8 @@ impl Model for Log {
 
 impl Log {
     ghost use Rattle.std.specs.Prelude.{◌≤◌, ◌^◌, IfOk};
+    ghost use Rattle.std.specs.Prelude.{length};
+    ghost use Rattle.quorum_log.specs.Layout.{most_records};
     ghost use Rattle.quorum_log.specs.Image.{tail_of, end_of};
     ghost use Rattle.quorum_log.specs.Logs.{Fits, log_of};
 
@@ -66,6 +68,7 @@ impl Log {
         requires half { found.now.half ≤ 1 }
         requires tail { tail_of found.now < end_of found.now }
         requires end { end_of found.now < 2 ^ 63 }
+        requires count { found.now.base + length found.now.records ≤ most_records }
         ensures { IfOk result (λ log. log ≡ log_of claim found.now other_valid) }
     {
         let buffer = vec![in alloc; 0; found.cap as usize + 57_369]?;

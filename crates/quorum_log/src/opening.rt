@@ -12,7 +12,7 @@ use crate::fault::OpenFault;
 use crate::found::Found;
 use crate::layout::{HEADER, image_size};
 use crate::log::Log;
-use crate::writing::take_over;
+use crate::writing::{add, take_over};
 use disk_core::{Disk, DiskFault};
 use std::alloc::Global;
 
@@ -59,6 +59,6 @@ fn read_rest<D: Disk>(disk: &mut D, header: &[u8], image: &mut Vec<u8>) -> Resul
     requires size { length image.old.items ≤ (D.view disk.old).size }
     ensures { (rest : List ℕ) × ReadStep (D.view disk.old) 64 rest result (D.view disk.new) × (IsOk result → image.new.items ≡ header.now ++ rest) }
 {
-    image[..HEADER].copy_from_slice(header);
+    add(image, 0, header);
     disk.read(64, &mut image[HEADER..])
 }
