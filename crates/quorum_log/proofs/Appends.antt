@@ -40,7 +40,7 @@ list-le x = omega arith
 before : (x : Found) (old new : List ℕ) → Holds old x → Beside x old new → get_or new (tail_of x) 0 ≡ 0 → Holds new x
 before x old new is beside closed =
     let low = behind-le (list_at x) x.records in
-    holds_by x x.records old new is beside.size
+    holds_by x x.records old new is (omega (arith, is.whole, beside.size))
       (within_part 0 (tail_of x) 0 64 old new beside.front (omega arith) (omega arith))
       (within_part 0 (tail_of x) (start_of x) (list_at x) old new beside.front (omega arith) (omega arith))
       (kept_current old new (other_of x) x.generation beside.other is.current)
@@ -68,7 +68,7 @@ after x bytes old new is beside some most fits few committed has =
     } in
     let closed : get_or new (commit_behind (list_at x) (x.records ++ r ∷ [])) 0 ≡ 0 =
         rw (behind-push (list_at x) x.records r) (has_one new (tail + 5 + length bytes) 0 (has_right new (tail + 5) bytes (0 ∷ []) body)) in
-    holds_by x (x.records ++ r ∷ []) old new is beside.size
+    holds_by x (x.records ++ r ∷ []) old new is (omega (arith, is.whole, beside.size))
       (within_part 0 tail 0 64 old new beside.front (omega arith) (omega arith))
       (within_part 0 tail (start_of x) (list_at x) old new beside.front (omega arith) (omega arith))
       (kept_current old new (other_of x) x.generation beside.other is.current)

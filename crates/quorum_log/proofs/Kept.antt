@@ -45,17 +45,17 @@ kept_half old new at version generation base state last same is =
     }
 
 -- the header stays, and so do the fields of the current half; its records may change
-pub holds_by : (x : Found) (rs : List FoundRecord) (old new : List ℕ) → Holds old x → length new ≡ length old → SameWithin 0 64 old new → SameWithin (start_of x) (list_at x) old new
+pub holds_by : (x : Found) (rs : List FoundRecord) (old new : List ℕ) → Holds old x → image_size x.cap ≤ length new → SameWithin 0 64 old new → SameWithin (start_of x) (list_at x) old new
     → IsCurrent new (other_of x) x.generation → Listed new (end_of x) (list_at x) rs → get_or new (commit_behind (list_at x) rs) 0 ≡ 0
     → x.base + length rs ≤ most_records → Holds new (record x { records = rs })
-holds_by x rs old new is size header half current listed closed count = record {
+holds_by x rs old new is whole header half current listed closed count = record {
   commit = rw (header 0 (omega arith) (omega arith)) is.commit;
   magic_is = same_window old new 0 64 1 7 header (omega arith) (omega arith) ∙ is.magic_is;
   header_version = rw (same_number old new 0 64 8 4 header (omega arith) (omega arith)) is.header_version;
   cap_is = same_number old new 0 64 12 4 header (omega arith) (omega arith) ∙ is.cap_is;
   cap_least = is.cap_least;
   cap_most = is.cap_most;
-  whole = omega (arith, is.whole, size);
+  whole = whole;
   half = is.half;
   fields = kept_half old new (start_of x) x.version x.generation x.base x.state x.last half is.fields;
   current = current;

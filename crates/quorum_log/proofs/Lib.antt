@@ -6,3 +6,4 @@ pub mod Appended
 pub mod Scans
 pub mod Halves
 pub mod Transfers
+pub mod Opened

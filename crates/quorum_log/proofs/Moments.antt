@@ -170,7 +170,7 @@ carries_first n (write m at bytes) cs carried = ((carried.0, tt), carried.1)
 carries_first n (sync m) cs carried = ((carried.0, tt), carried.1)
 carries_first n (claim m) cs carried = absurd carried
 
-rose_before : (a b c : ℕ) → a ≤ b → Rose b c → Rose a c
+pub rose_before : (a b c : ℕ) → a ≤ b → Rose b c → Rose a c
 rose_before a b c later rose = omega arith
 
 -- an answer to later calls is one to all of them

@@ -57,7 +57,7 @@ fn read_rest<D: Disk>(disk: &mut D, header: &[u8], image: &mut Vec<u8>) -> Resul
     requires header { length header.now ≡ 64 }
     requires room { 64 ≤ length image.old.items }
     requires size { length image.old.items ≤ (D.view disk.old).size }
-    ensures { (rest : List ℕ) × ReadStep (D.view disk.old) 64 rest result (D.view disk.new) × (IsOk result → image.new.items ≡ header.now ++ rest) }
+    ensures { (rest : List ℕ) × (64 + length rest ≡ length image.old.items) × ReadStep (D.view disk.old) 64 rest result (D.view disk.new) × (IsOk result → image.new.items ≡ header.now ++ rest) }
 {
     add(image, 0, header);
     disk.read(64, &mut image[HEADER..])

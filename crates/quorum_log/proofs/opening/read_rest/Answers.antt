@@ -10,4 +10,5 @@ returns g c =
     let front : take 64 c.add.new.buffer.items ≡ c.args.header.now = (let e : 0 + length c.args.header.now ≡ 64 = omega (arith, c.requires.header) in subst P e c.add.ensures.text) in
     let none : drop (length whole - 64) (drop 64 whole) ≡ [] = drop_all (length whole - 64) (drop 64 whole) (omega (arith, length-drop 64 whole)) in
     let long : 64 + length c.read.new.into ≡ c.add.new.buffer.len = omega (arith, c.read.auto.into, c.deref_mut.ensures.len, c.requires.room, c.add.ensures.size, ap (λ xs. length xs) c.deref_mut.ensures.value, length-drop 64 whole) in
-    (c.read.new.into, c.read.ensures, (λ ok. rest_read _ whole c.add.new.buffer.items c.args.header.now c.read.new.into _ _ c.deref_mut.ensures.value front none long (omega (arith, c.requires.room, c.add.ensures.size))))
+    let size : 64 + length c.read.new.into ≡ length c.args.image.now.items = omega (arith, c.read.auto.into, c.requires.room, c.add.ensures.size, ap (λ xs. length xs) c.deref_mut.ensures.value, length-drop 64 whole) in
+    (c.read.new.into, size, c.read.ensures, (λ ok. rest_read _ whole c.add.new.buffer.items c.args.header.now c.read.new.into _ _ c.deref_mut.ensures.value front none long (omega (arith, c.requires.room, c.add.ensures.size))))
