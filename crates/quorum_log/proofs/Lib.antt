@@ -7,3 +7,4 @@ pub mod Scans
 pub mod Halves
 pub mod Transfers
 pub mod Opened
+pub mod Checkpoints

@@ -1,8 +1,9 @@
 -- The texts that are written to a log, and what they make of it.
-use Rattle.std.specs.Prelude.{◌≡◌, ◌≢◌, ℕ, ◌+◌, ◌-◌, ◌⊎◌, List, [], ◌∷◌, ◌++◌, length, replicate, slice_index, Result, Ok, Err, ⊤}
+use Rattle.std.specs.Prelude.{◌≡◌, ◌≢◌, ℕ, ◌+◌, ◌-◌, ◌⊎◌, Bool, true, false, List, [], ◌∷◌, ◌++◌, length, replicate, slice_index, Result, Ok, Err, ⊤}
 use Rattle.wire_fields.specs.declared.endian.Endian.TheVariants.{Little}
 use Rattle.wire_fields.specs.Numbers.{num}
 use Rattle.disk_core.specs.Images.{Moment, IsImage}
+use Rattle.disk_core.specs.Calls.{Call, write, sync}
 use Rattle.quorum_log.specs.declared.found.Found.{Found}
 use Rattle.quorum_log.specs.declared.found.FoundRecord.{FoundRecord}
 use Rattle.quorum_log.specs.Layout.{magic, half_at, second_version, next_generation}
@@ -52,6 +53,11 @@ with_checkpoint x state last = record {
   last = last;
   records = [];
 }
+
+-- The calls that close a half which is valid; one that isn't valid is left alone.
+abbrev pub closing : Bool → ℕ → ℕ → List Call
+closing true token at = write token at (0 ∷ []) ∷ sync token ∷ []
+closing false token at = []
 
 -- An image inside `append`, and inside `checkpoint`.
 abbrev pub HoldsEither : Found → Found → List ℕ → Type 0
