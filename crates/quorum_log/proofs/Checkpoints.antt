@@ -1,5 +1,5 @@
 -- What the calls of `checkpoint` leave: the one half as current, or the other.
-use Rattle.std.proofs.Common.{◌≡◌, ◌≢◌, ℕ, ◌+◌, ◌-◌, ◌*◌, ◌%◌, ◌^◌, ◌<◌, ◌≤◌, ◌⊎◌, inl, inr, List, [], ◌∷◌, ◌++◌, length, get_or, refl, sym, ap, ◌∙◌, subst, arith, length-append}
+use Rattle.std.proofs.Common.{◌≡◌, ◌≢◌, ℕ, ◌+◌, ◌-◌, ◌*◌, ◌%◌, ◌^◌, ◌<◌, ◌≤◌, ◌⊎◌, inl, inr, List, [], ◌∷◌, ◌++◌, length, take, get_or, refl, sym, ap, ◌∙◌, subst, arith, append_assoc, length-append}
 use Rattle.std.proofs.Math.Nat.{mod-lt}
 use Rattle.std.proofs.lemmas.Bool.{cases_eq}
 use Rattle.std.proofs.lemmas.Bool.Decides.{nat_tests}
@@ -50,13 +50,13 @@ written image at generation base state last g-fits b-fits s-fits l-fits has =
     let r2 = s ++ r3 in
     let r1 = b ++ r2 in
     let e1 : at + 1 + length g ≡ at + 9 = omega (arith, length-num 8 generation) in
-    let h1 : Has image (at + 9) r1 = rw e1 at has_right image (at + 1) g r1 has in
+    let h1 : Has image (at + 9) r1 = rw e1 at (has_right image (at + 1) g r1 has) in
     let e2 : at + 9 + length b ≡ at + 17 = omega (arith, length-num 8 (base + second_version)) in
-    let h2 : Has image (at + 17) r2 = rw e2 at has_right image (at + 9) b r2 h1 in
+    let h2 : Has image (at + 17) r2 = rw e2 at (has_right image (at + 9) b r2 h1) in
     let e3 : at + 17 + length s ≡ at + 21 = omega (arith, length-num 4 (length state)) in
-    let h3 : Has image (at + 21) r3 = rw e3 at has_right image (at + 17) s r3 h2 in
+    let h3 : Has image (at + 21) r3 = rw e3 at (has_right image (at + 17) s r3 h2) in
     let e4 : at + 21 + length l ≡ at + 25 = omega (arith, length-num 4 (length last)) in
-    let h4 : Has image (at + 25) r4 = rw e4 at has_right image (at + 21) l r4 h3 in
+    let h4 : Has image (at + 25) r4 = rw e4 at (has_right image (at + 21) l r4 h3) in
     let h5 = has_right image (at + 25) state r5 h4 in
     let h6 = has_right image (at + 25 + length state) last (0 ∷ []) h5 in
     let field : number_at image (at + 9) 8 ≡ base + second_version = has_number image (at + 9) 8 (base + second_version) (omega arith) (has_left image (at + 9) b r2 h1) in
@@ -189,3 +189,36 @@ beginning x state last old is fits state_most last_most closed d c body has comm
   | inl still ↦ inl (stays x old c is (both_aside x state last old d c (next_generation x.generation) (x.base + length x.records) is state_most last_most body commit closed) (inl still))
   | inr valid ↦ inr (begun x state last old is fits state_most last_most closed d c body has commit valid)
 ]
+
+-- the half that was current stays valid
+pub valid_still : (x : Found) (state last old d c : List ℕ) → Holds old x → length state ≤ x.cap → length last ≤ most_record → get_or old (other_of x) 0 ≡ 0
+    → SameOutside (other_of x + 1) (length (half_text (next_generation x.generation) (x.base + length x.records) state last)) old d → SameOutside (other_of x) 1 d c → get_or c (start_of x) 0 ≢ 0
+valid_still x state last old d c is state_most last_most closed body commit =
+    let aside = both_aside x state last old d c (next_generation x.generation) (x.base + length x.records) is state_most last_most body commit closed in
+    rw (aside.half (start_of x) (omega arith) (omega arith)) is.fields.validity
+
+-- the text as it is put together
+regroup : (g b s l state last end : List ℕ) → (((((g ++ b) ++ s) ++ l) ++ state) ++ last) ++ end ≡ g ++ (b ++ (s ++ (l ++ (state ++ (last ++ end)))))
+regroup g b s l state last end = simp append_assoc
+
+next_part : (d d' : ℕ) (old new text part : List ℕ) → take d old ≡ text → d' ≡ d + length part → take (d + length part) new ≡ take d old ++ part → take d' new ≡ text ++ part
+next_part d d' old new text part before count put = rw count (put ∙ ap (λ xs. xs ++ part) before)
+
+pub half_put : (b0 b1 b2 b3 b4 b5 b6 b7 g b s l state last : List ℕ) (d1 d2 d3 d4 d5 d6 d7 : ℕ)
+    → d1 ≡ 0 + length g → take (0 + length g) b1 ≡ take 0 b0 ++ g
+    → d2 ≡ d1 + length b → take (d1 + length b) b2 ≡ take d1 b1 ++ b
+    → d3 ≡ d2 + length s → take (d2 + length s) b3 ≡ take d2 b2 ++ s
+    → d4 ≡ d3 + length l → take (d3 + length l) b4 ≡ take d3 b3 ++ l
+    → d5 ≡ d4 + length state → take (d4 + length state) b5 ≡ take d4 b4 ++ state
+    → d6 ≡ d5 + length last → take (d5 + length last) b6 ≡ take d5 b5 ++ last
+    → d7 ≡ d6 + 1 → take (d6 + 1) b7 ≡ take d6 b6 ++ 0 ∷ []
+    → take d7 b7 ≡ g ++ (b ++ (s ++ (l ++ (state ++ (last ++ 0 ∷ [])))))
+half_put b0 b1 b2 b3 b4 b5 b6 b7 g b s l state last d1 d2 d3 d4 d5 d6 d7 c1 t1 c2 t2 c3 t3 c4 t4 c5 t5 c6 t6 c7 t7 =
+    let p1 : take d1 b1 ≡ g = rw c1 t1 in
+    let p2 = next_part d1 d2 b1 b2 g b p1 c2 t2 in
+    let p3 = next_part d2 d3 b2 b3 (g ++ b) s p2 c3 t3 in
+    let p4 = next_part d3 d4 b3 b4 ((g ++ b) ++ s) l p3 c4 t4 in
+    let p5 = next_part d4 d5 b4 b5 (((g ++ b) ++ s) ++ l) state p4 c5 t5 in
+    let p6 = next_part d5 d6 b5 b6 ((((g ++ b) ++ s) ++ l) ++ state) last p5 c6 t6 in
+    let p7 = next_part d6 d7 b6 b7 (((((g ++ b) ++ s) ++ l) ++ state) ++ last) (0 ∷ []) p6 c7 t7 in
+    p7 ∙ regroup g b s l state last (0 ∷ [])

@@ -8,3 +8,4 @@ pub mod Halves
 pub mod Transfers
 pub mod Opened
 pub mod Checkpoints
+pub mod Checkpointed

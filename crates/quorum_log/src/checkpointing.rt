@@ -43,9 +43,14 @@ impl Log {
         let other = half_at(self.cap, half);
         let generation = self.generation.wrapping_add(1);
         let base = self.base + self.records;
-        close(disk, self.claim, other, self.other_valid)?;
         let count = put_half(&mut self.buffer, generation, base, state, last);
-        write_then_commit(disk, self.claim, other + 1, &self.buffer[..count], other)?;
+        replace(
+            disk,
+            self.claim,
+            other,
+            self.other_valid,
+            &self.buffer[..count],
+        )?;
         self.half = half;
         self.version = 2;
         self.generation = generation;
@@ -67,6 +72,22 @@ fn close<D: Disk>(disk: &mut D, claim: u32, at: u64, is_valid: bool) -> Result<(
         return put_byte(disk, claim, at, 0);
     }
     Ok(())
+}
+
+/// Closes the half that begins there where it is valid, writes its text, and makes it valid.
+fn replace<D: Disk>(
+    disk: &mut D,
+    claim: u32,
+    at: u64,
+    is_valid: bool,
+    text: &[u8],
+) -> Result<(), DiskFault>
+    requires room { at + 1 + length text.now ≤ (D.view disk.old).size }
+    requires small { at < 2 ^ 63 }
+    ensures { Made (closing is_valid claim at ++ write claim (at + 1) text.now ∷ sync claim ∷ write claim at (1 ∷ []) ∷ sync claim ∷ []) (D.view disk.old) result (D.view disk.new) }
+{
+    close(disk, claim, at, is_valid)?;
+    write_then_commit(disk, claim, at + 1, text, at)
 }
 
 /// Puts the text of the half at the front of the buffer, and tells how long it is.
