@@ -26,9 +26,6 @@ pub record Left (y : Found) (place : ℕ) (v w : DiskView) : Type 0 where
 refused_result : {A : Type 0} (result : Result ⊤ DiskFault) (e : DiskFault) → result ≡ Err e → IsOk result → A
 refused_result result e is ok = absurd (cc)
 
-
-
-
 committed : (x : Found) (bytes : List ℕ) (v u w t : DiskView) (result : Result ⊤ DiskFault) → IsTrue v.tells → Holds v.current.seen x
     → 1 ≤ length bytes → length bytes ≤ most_record → tail_of x + 5 + length bytes < end_of x → x.base + length x.records < most_records
     → Put (tail_of x + 1) (record_text bytes) v u → Put (tail_of x) (1 ∷ []) u t → w ≡ t → Left (with_record x bytes) (other_of x) v w
@@ -55,14 +52,14 @@ appended token x bytes v w result told settled is some most fits few made =
     elim (pair P token (tail_of x + 1) (record_text bytes) (write token (tail_of x) (1 ∷ []) ∷ sync token ∷ []) v w result told settled (λ c same. inl (torn x bytes old is fits c same)) made) [
       | inl refused ↦ (refused.0, refused_result result refused.1.0 refused.1.1)
       | inr body ↦
-        let u = body.0 in
-        elim (pair P token (tail_of x) (1 ∷ []) [] u w result body.1.told body.1.settled (λ c same. committing x bytes old is some most fits few u.current.seen c body.1.same body.1.has same) body.3) [
-          | inl refused ↦ (passes_trans P v u w body.2 refused.0, refused_result result refused.1.0 refused.1.1)
-          | inr commit ↦
-            let t = commit.0 in
-            let last : Passes P u w = (let Q : DiskView → Type 0 = λ d. Passes P u d in subst Q (sym commit.3.0) commit.2) in
-            (passes_trans P v u w body.2 last, λ ok. committed x bytes v u w t result told is some most fits few body.1 commit.1 commit.3.0)
-        ]
+          let u = body.0 in
+          elim (pair P token (tail_of x) (1 ∷ []) [] u w result body.1.told body.1.settled (λ c same. committing x bytes old is some most fits few u.current.seen c body.1.same body.1.has same) body.3) [
+            | inl refused ↦ (passes_trans P v u w body.2 refused.0, refused_result result refused.1.0 refused.1.1)
+            | inr commit ↦
+                let t = commit.0 in
+                let last : Passes P u w = (let Q : DiskView → Type 0 = λ d. Passes P u d in subst Q (sym commit.3.0) commit.2) in
+                (passes_trans P v u w body.2 last, λ ok. committed x bytes v u w t result told is some most fits few body.1 commit.1 commit.3.0)
+          ]
     ]
 
 -- the log value behind `append`

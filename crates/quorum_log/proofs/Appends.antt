@@ -41,11 +41,11 @@ before : (x : Found) (old new : List ℕ) → Holds old x → Beside x old new �
 before x old new is beside closed =
     let low = behind-le (list_at x) x.records in
     holds_by x x.records old new is (omega (arith, is.whole, beside.size))
-      (within_part 0 (tail_of x) 0 64 old new beside.front (omega arith) (omega arith))
-      (within_part 0 (tail_of x) (start_of x) (list_at x) old new beside.front (omega arith) (omega arith))
-      (kept_current old new (other_of x) x.generation beside.other is.current)
-      (kept_list old new (end_of x) (list_at x) (tail_of x) x.records (omega arith) (within_part 0 (tail_of x) (list_at x) (tail_of x) old new beside.front (omega arith) (omega arith)) is.records)
-      closed is.count
+    (within_part 0 (tail_of x) 0 64 old new beside.front (omega arith) (omega arith))
+    (within_part 0 (tail_of x) (start_of x) (list_at x) old new beside.front (omega arith) (omega arith))
+    (kept_current old new (other_of x) x.generation beside.other is.current)
+    (kept_list old new (end_of x) (list_at x) (tail_of x) x.records (omega arith) (within_part 0 (tail_of x) (list_at x) (tail_of x) old new beside.front (omega arith) (omega arith)) is.records)
+    closed is.count
 
 after : (x : Found) (bytes old new : List ℕ) → Holds old x → Beside x old new → 1 ≤ length bytes → length bytes ≤ most_record → tail_of x + 5 + length bytes < end_of x → x.base + length x.records < most_records
     → get_or new (tail_of x) 0 ≢ 0 → Has new (tail_of x + 1) (record_text bytes) → Holds new (with_record x bytes)
@@ -67,14 +67,14 @@ after x bytes old new is beside some most fits few committed has =
       bytes = has_window new (tail + 5) bytes (has_left new (tail + 5) bytes (0 ∷ []) body).each;
     } in
     let closed : get_or new (commit_behind (list_at x) (x.records ++ r ∷ [])) 0 ≡ 0 =
-        rw (behind-push (list_at x) x.records r) (has_one new (tail + 5 + length bytes) 0 (has_right new (tail + 5) bytes (0 ∷ []) body)) in
+    rw (behind-push (list_at x) x.records r) (has_one new (tail + 5 + length bytes) 0 (has_right new (tail + 5) bytes (0 ∷ []) body)) in
     holds_by x (x.records ++ r ∷ []) old new is (omega (arith, is.whole, beside.size))
-      (within_part 0 tail 0 64 old new beside.front (omega arith) (omega arith))
-      (within_part 0 tail (start_of x) (list_at x) old new beside.front (omega arith) (omega arith))
-      (kept_current old new (other_of x) x.generation beside.other is.current)
-      (listed_push new (end_of x) (list_at x) x.records r
-        (kept_list old new (end_of x) (list_at x) tail x.records (omega arith) (within_part 0 tail (list_at x) tail old new beside.front (omega arith) (omega arith)) is.records) one)
-      closed (omega (arith, length-append x.records (r ∷ [])))
+    (within_part 0 tail 0 64 old new beside.front (omega arith) (omega arith))
+    (within_part 0 tail (start_of x) (list_at x) old new beside.front (omega arith) (omega arith))
+    (kept_current old new (other_of x) x.generation beside.other is.current)
+    (listed_push new (end_of x) (list_at x) x.records r
+    (kept_list old new (end_of x) (list_at x) tail x.records (omega arith) (within_part 0 tail (list_at x) tail old new beside.front (omega arith) (omega arith)) is.records) one)
+    closed (omega (arith, length-append x.records (r ∷ [])))
 
 -- what lies outside of a range behind the tail and in the half
 beside_range : (x : Found) (at count : ℕ) (old new : List ℕ) → Holds old x → tail_of x ≤ at → at + count ≤ end_of x → SameOutside at count old new → Beside x old new
@@ -102,12 +102,12 @@ pub torn : (x : Found) (bytes old : List ℕ) → Holds old x → tail_of x + 5 
 torn x bytes old is fits c same =
     let long = length-record_text bytes in
     before x old c is (beside_range x (tail_of x + 1) (length (record_text bytes)) old c is (omega arith) (omega arith) same)
-      (same.each (tail_of x) (inl (omega arith)) ∙ is.closed)
+    (same.each (tail_of x) (inl (omega arith)) ∙ is.closed)
 
 text_kept : (x : Found) (bytes d c : List ℕ) → Has d (tail_of x + 1) (record_text bytes) → SameOutside (tail_of x) 1 d c → Has c (tail_of x + 1) (record_text bytes)
 text_kept x bytes d c has same =
     has_kept d c (tail_of x + 1) (tail_of x + 1 + length (record_text bytes)) (tail_of x + 1) (record_text bytes) same.size
-      (within_from (tail_of x) 1 (tail_of x + 1) (tail_of x + 1 + length (record_text bytes)) d c same (inr (omega arith))) (omega arith) (omega arith) has
+    (within_from (tail_of x) 1 (tail_of x + 1) (tail_of x + 1 + length (record_text bytes)) d c same (inr (omega arith))) (omega arith) (omega arith) has
 
 pub both_beside : (x : Found) (bytes old d c : List ℕ) → Holds old x → tail_of x + 5 + length bytes < end_of x
     → SameOutside (tail_of x + 1) (length (record_text bytes)) old d → SameOutside (tail_of x) 1 d c → Beside x old c

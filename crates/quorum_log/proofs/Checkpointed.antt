@@ -79,17 +79,17 @@ closed_half x token true v w result told settled is valid made =
     elim (pair (λ c. Holds c x) token (other_of x) (0 ∷ []) [] v w result told settled (closing_one x v.current.seen is (not_closed (get_or v.current.seen (other_of x) 0) valid)) made) [
       | inl refused ↦ (refused.0, refused_result result refused.1.0 refused.1.1)
       | inr done ↦
-        let u = done.0 in
-        let zero : get_or u.current.seen (other_of x) 0 ≡ 0 = has_one u.current.seen (other_of x) 0 done.1.has in
-        let left : Closed x u = record {
-          told = done.1.told;
-          settled = done.1.settled;
-          holds = closing_one x v.current.seen is (not_closed (get_or v.current.seen (other_of x) 0) valid) u.current.seen done.1.same;
-          closed = zero;
-        } in
-        let P : DiskView → Type 0 = λ d. Passes (λ c. Holds c x) v d in
-        let Q : DiskView → Type 0 = λ d. Closed x d in
-        (subst P (sym done.3.0) done.2, λ ok. subst Q (sym done.3.0) left)
+          let u = done.0 in
+          let zero : get_or u.current.seen (other_of x) 0 ≡ 0 = has_one u.current.seen (other_of x) 0 done.1.has in
+          let left : Closed x u = record {
+            told = done.1.told;
+            settled = done.1.settled;
+            holds = closing_one x v.current.seen is (not_closed (get_or v.current.seen (other_of x) 0) valid) u.current.seen done.1.same;
+            closed = zero;
+          } in
+          let P : DiskView → Type 0 = λ d. Passes (λ c. Holds c x) v d in
+          let Q : DiskView → Type 0 = λ d. Closed x d in
+          (subst P (sym done.3.0) done.2, λ ok. subst Q (sym done.3.0) left)
     ]
 closed_half x token false v w result told settled is valid made =
     let P : DiskView → Type 0 = λ d. Passes (λ c. Holds c x) v d in
@@ -113,24 +113,24 @@ begun_half x token state last u w result closed fits state_most last_most made =
     let text = half_text (next_generation x.generation) (x.base + length x.records) state last in
     let P : List ℕ → Type 0 = HoldsEither x (with_checkpoint x state last) in
     elim (pair P token (other_of x + 1) text (write token (other_of x) (1 ∷ []) ∷ sync token ∷ []) u w result closed.told closed.settled
-        (λ c same. inl (tearing x state last old (next_generation x.generation) (x.base + length x.records) closed.holds state_most last_most closed.closed c same)) made) [
+    (λ c same. inl (tearing x state last old (next_generation x.generation) (x.base + length x.records) closed.holds state_most last_most closed.closed c same)) made) [
       | inl refused ↦ (refused.0, refused_result result refused.1.0 refused.1.1)
       | inr body ↦
-        let d = body.0 in
-        elim (pair P token (other_of x) (1 ∷ []) [] d w result body.1.told body.1.settled
-            (λ c same. beginning x state last old closed.holds fits state_most last_most closed.closed d.current.seen c body.1.same body.1.has same) body.3) [
-          | inl refused ↦ (passes_trans P u d w body.2 refused.0, refused_result result refused.1.0 refused.1.1)
-          | inr commit ↦
-            let t = commit.0 in
-            let Q : DiskView → Type 0 = λ e. Passes P d e in
-            let R : DiskView → Type 0 = λ e. Begun (with_checkpoint x state last) (start_of x) e in
-            let one : get_or t.current.seen (other_of x) 0 ≡ 1 = has_one t.current.seen (other_of x) 1 commit.1.has in
-            let holds : Holds t.current.seen (with_checkpoint x state last) =
+          let d = body.0 in
+          elim (pair P token (other_of x) (1 ∷ []) [] d w result body.1.told body.1.settled
+          (λ c same. beginning x state last old closed.holds fits state_most last_most closed.closed d.current.seen c body.1.same body.1.has same) body.3) [
+            | inl refused ↦ (passes_trans P u d w body.2 refused.0, refused_result result refused.1.0 refused.1.1)
+            | inr commit ↦
+                let t = commit.0 in
+                let Q : DiskView → Type 0 = λ e. Passes P d e in
+                let R : DiskView → Type 0 = λ e. Begun (with_checkpoint x state last) (start_of x) e in
+                let one : get_or t.current.seen (other_of x) 0 ≡ 1 = has_one t.current.seen (other_of x) 1 commit.1.has in
+                let holds : Holds t.current.seen (with_checkpoint x state last) =
                 begun x state last old closed.holds fits state_most last_most closed.closed d.current.seen t.current.seen body.1.same body.1.has commit.1.same (λ zero. omega arith) in
-            let valid : get_or t.current.seen (start_of x) 0 ≢ 0 = valid_still x state last old d.current.seen t.current.seen closed.holds state_most last_most closed.closed body.1.same commit.1.same in
-            let left : R t = record { told = commit.1.told; settled = commit.1.settled; holds = holds; valid = valid } in
-            (passes_trans P u d w body.2 (subst Q (sym commit.3.0) commit.2), λ ok. subst R (sym commit.3.0) left)
-        ]
+                let valid : get_or t.current.seen (start_of x) 0 ≢ 0 = valid_still x state last old d.current.seen t.current.seen closed.holds state_most last_most closed.closed body.1.same commit.1.same in
+                let left : R t = record { told = commit.1.told; settled = commit.1.settled; holds = holds; valid = valid } in
+                (passes_trans P u d w body.2 (subst Q (sym commit.3.0) commit.2), λ ok. subst R (sym commit.3.0) left)
+          ]
     ]
 
 valid_test : (b : ℕ) → b ≢ 0 → true ≡ not (b == 0)
@@ -166,10 +166,10 @@ checkpointed x token valid state last v w result told settled is other fits stat
     elim (made_split (closing valid token (other_of x)) rest v w result made) [
       | inr refused ↦ (passes_weaken (λ c. Holds c x) P v w (λ c h. inl h) (closed_half x token valid v w (Err refused.0) told settled is other refused.1).0, refused_result result refused.0 refused.2)
       | inl both ↦
-        let u = both.0 in
-        let first = closed_half x token valid v u (Ok both.1.0) told settled is other both.1.1 in
-        let second = begun_half x token state last u w result (first.1 refl) fits state_most last_most both.2 in
-        (passes_trans P v u w (passes_weaken (λ c. Holds c x) P v u (λ c h. inl h) first.0) second.0, second.1)
+          let u = both.0 in
+          let first = closed_half x token valid v u (Ok both.1.0) told settled is other both.1.1 in
+          let second = begun_half x token state last u w result (first.1 refl) fits state_most last_most both.2 in
+          (passes_trans P v u w (passes_weaken (λ c. Holds c x) P v u (λ c h. inl h) first.0) second.0, second.1)
     ]
 
 pub checkpoint_valued : (inside log : LogValue) (v w : DiskView) (text state last : List ℕ) (at half generation base : ℕ) (result : Result ⊤ DiskFault) (x : Found)

@@ -22,9 +22,19 @@ length-half_text generation base state last =
     let b = num Little 8 (base + second_version) in
     let s = num Little 4 (length state) in
     let l = num Little 4 (length last) in
-    omega (arith, length-num 8 generation, length-num 8 (base + second_version), length-num 4 (length state), length-num 4 (length last),
-      length-append g (b ++ (s ++ (l ++ (state ++ (last ++ 0 ∷ []))))), length-append b (s ++ (l ++ (state ++ (last ++ 0 ∷ [])))), length-append s (l ++ (state ++ (last ++ 0 ∷ []))),
-      length-append l (state ++ (last ++ 0 ∷ [])), length-append state (last ++ 0 ∷ []), length-append last (0 ∷ []))
+    omega (
+      arith,
+      length-num 8 generation,
+      length-num 8 (base + second_version),
+      length-num 4 (length state),
+      length-num 4 (length last),
+      length-append g (b ++ (s ++ (l ++ (state ++ (last ++ 0 ∷ []))))),
+      length-append b (s ++ (l ++ (state ++ (last ++ 0 ∷ [])))),
+      length-append s (l ++ (state ++ (last ++ 0 ∷ []))),
+      length-append l (state ++ (last ++ 0 ∷ [])),
+      length-append state (last ++ 0 ∷ []),
+      length-append last (0 ∷ []),
+    )
 
 second_version_of : (base : ℕ) → version_of (base + second_version) ≡ 2
 second_version_of base = grind (arith, nat_tests)
@@ -105,11 +115,11 @@ stays : (x : Found) (old new : List ℕ) → Holds old x → Aside x old new →
 stays x old new is aside current =
     let low = tail_low x old is in
     holds_by x x.records old new is (omega (arith, is.whole, aside.size)) aside.header
-      (within_part (start_of x) (end_of x) (start_of x) (list_at x) old new aside.half (omega arith) (omega (arith, low.0, low.1)))
-      current
-      (kept_list old new (end_of x) (list_at x) (tail_of x) x.records (omega arith) (within_part (start_of x) (end_of x) (list_at x) (tail_of x) old new aside.half (omega arith) (omega (arith, low.1))) is.records)
-      (aside.half (tail_of x) (omega (arith, low.0)) low.1 ∙ is.closed)
-      is.count
+    (within_part (start_of x) (end_of x) (start_of x) (list_at x) old new aside.half (omega arith) (omega (arith, low.0, low.1)))
+    current
+    (kept_list old new (end_of x) (list_at x) (tail_of x) x.records (omega arith) (within_part (start_of x) (end_of x) (list_at x) (tail_of x) old new aside.half (omega arith) (omega (arith, low.1))) is.records)
+    (aside.half (tail_of x) (omega (arith, low.0)) low.1 ∙ is.closed)
+    is.count
 
 -- the other half becomes current
 begins : (x : Found) (state last old new : List ℕ) → Holds old x → Aside x old new → x.generation < 256 ^ 8 → length state ≤ x.cap → length last ≤ most_record
@@ -145,7 +155,7 @@ pub closing_one : (x : Found) (old : List ℕ) → Holds old x → get_or old (o
 closing_one x old is valid c same =
     let aside = aside_range x (other_of x) 1 old c is (omega arith) (omega arith) same in
     let generation : number_at c (other_of x + 1) 8 ≡ number_at old (other_of x + 1) 8 =
-        same_number old c (other_of x + 1) (other_of x + 9) (other_of x + 1) 8 (within_from (other_of x) 1 (other_of x + 1) (other_of x + 9) old c same (inr (omega arith))) (omega arith) (omega arith) in
+    same_number old c (other_of x + 1) (other_of x + 9) (other_of x + 1) 8 (within_from (other_of x) 1 (other_of x + 1) (other_of x + 9) old c same (inr (omega arith))) (omega arith) (omega arith) in
     stays x old c is aside (elim is.current [
       | inl closed ↦ absurd (valid closed)
       | inr next ↦ inr (rw generation next)
@@ -178,7 +188,7 @@ pub begun : (x : Found) (state last old : List ℕ) → Holds old x → x.genera
     → get_or c (other_of x) 0 ≢ 0 → Holds c (with_checkpoint x state last)
 begun x state last old is fits state_most last_most closed d c body has commit valid =
     begins x state last old c is (both_aside x state last old d c (next_generation x.generation) (x.base + length x.records) is state_most last_most body commit closed) fits state_most last_most
-      (text_kept (other_of x) (half_text (next_generation x.generation) (x.base + length x.records) state last) d c has commit) valid
+    (text_kept (other_of x) (half_text (next_generation x.generation) (x.base + length x.records) state last) d c has commit) valid
 
 -- while it is committed
 pub beginning : (x : Found) (state last old : List ℕ) → Holds old x → x.generation < 256 ^ 8 → length state ≤ x.cap → length last ≤ most_record → get_or old (other_of x) 0 ≡ 0

@@ -41,9 +41,9 @@ joined_each : (seen front back : List ℕ) → Has seen 0 front → Has seen (le
 joined_each seen front back a b k below = elim (cases_lt k (length front)) [
   | inl lt ↦ a.each k lt ∙ sym (get_or_append_left front back 0 k lt)
   | inr le ↦
-    let s = b.each (k - length front) (omega (arith, length-append front back)) in
-    let e : length front + (k - length front) ≡ 0 + k = omega arith in
-    (rw e at s) ∙ sym (get_or-append_right front back (length front) k 0 refl le)
+      let s = b.each (k - length front) (omega (arith, length-append front back)) in
+      let e : length front + (k - length front) ≡ 0 + k = omega arith in
+      (rw e at s) ∙ sym (get_or-append_right front back (length front) k 0 refl le)
 ]
 
 -- the header and what is read behind it

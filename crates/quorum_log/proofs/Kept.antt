@@ -24,9 +24,10 @@ behind-le at (r ∷ rs) = omega (arith, behind-le (at + 5 + length r.bytes) rs)
 pub kept_list : (old new : List ℕ) (end at to : ℕ) (rs : List FoundRecord) → commit_behind at rs ≤ to → SameWithin at to old new → Listed old end at rs → Listed new end at rs
 kept_list old new end at to [] low same is = tt
 kept_list old new end at to (r ∷ rs) low same is =
-    let next = behind-le (at + 5 + length r.bytes) rs in
-    (kept_record old new end at r (within_part at to at (at + 5 + length r.bytes) old new same (omega arith) (omega arith)) is.0,
-     kept_list old new end (at + 5 + length r.bytes) to rs low (within_part at to (at + 5 + length r.bytes) to old new same (omega arith) (omega arith)) is.1)
+    let next = behind-le (at + 5 + length r.bytes) rs in (
+      kept_record old new end at r (within_part at to at (at + 5 + length r.bytes) old new same (omega arith) (omega arith)) is.0,
+      kept_list old new end (at + 5 + length r.bytes) to rs low (within_part at to (at + 5 + length r.bytes) to old new same (omega arith) (omega arith)) is.1,
+    )
 
 pub kept_half : (old new : List ℕ) (at version generation base : ℕ) (state last : List ℕ) → SameWithin at (at + 25 + length state + length last) old new
     → IsHalf old at version generation base state last → IsHalf new at version generation base state last

@@ -73,8 +73,8 @@ torn_image : (at count : ℕ) (old : List ℕ) (m : Moment) → m.pending ≡ re
 torn_image at count old m pending same c image = record {
   size = image.size ∙ same.size;
   each = λ i out.
-    let free : IsFree m.pending i = (let P : List Span → Type 0 = λ rs. IsFree rs i in subst P (sym pending) (out, tt)) in
-    image.outside i free ∙ same.each i out;
+      let free : IsFree m.pending i = (let P : List Span → Type 0 = λ rs. IsFree rs i in subst P (sym pending) (out, tt)) in
+      image.outside i free ∙ same.each i out;
 }
 
 one_pending : (m m' : Moment) (r : Span) → m.pending ≡ [] → m'.pending ≡ m.pending ++ r ∷ [] → m'.pending ≡ r ∷ []
@@ -113,33 +113,33 @@ pair P n at bytes cs v w result told none torn made =
     elim made [
       | inr refused ↦ inl (passes_step P (write n at bytes) v w (Err refused.0) told refused.1 before (refused_write P n at bytes v w refused.0 told none torn refused.1), (refused.0, refused.2))
       | inl written ↦
-        let m = written.0 in
-        let step = written.1.1 in
-        let puts = step.answer.2 told in
-        let told' = step_told (write n at bytes) v m (Ok written.1.0) step told in
-        let images : EachImage P m.current = λ c image. torn c (torn_image at (length bytes) v.current.seen m.current (one_pending v.current m.current (record { at = at; len = length bytes }) none puts.pending) puts.outside c image) in
-        let first : Passes P v m = passes_step P (write n at bytes) v m (Ok written.1.0) told step before images in
-        elim written.2 [
-          | inr refused ↦ inl (passes_trans P v m w first (passes_step P (sync n) m w (Err refused.0) told' refused.1 images (refused_sync P n m w refused.0 told' refused.1 images)), (refused.0, refused.2))
-          | inl synced ↦
-            let u = synced.0 in
-            let sure = synced.1.1 in
-            let done = sure.answer.2 told' in
-            let seen : u.current.seen ≡ m.current.seen = ap (λ (x : Moment). x.seen) done in
-            let settled : u.current.pending ≡ [] = ap (λ (x : Moment). x.pending) done in
-            let same : SameOutside at (length bytes) v.current.seen u.current.seen = (let Q : List ℕ → Type 0 = λ c. SameOutside at (length bytes) v.current.seen c in subst Q (sym seen) puts.outside) in
-            let has : Has u.current.seen at bytes = (let Q : List ℕ → Type 0 = λ c. Has c at bytes in subst Q (sym seen) puts.put) in
-            let put : Put at bytes v u = record {
-              told = step_told (sync n) m u (Ok synced.1.0) sure told';
-              size = sure.same.size ∙ step.same.size;
-              settled = settled;
-              held = sure.answer.1 ∙ step.answer.1;
-              has = has;
-              same = same;
-            } in
-            let last : EachImage P u.current = settled_images P u.current settled (torn u.current.seen same) in
-            inr (u, put, passes_trans P v m u first (passes_step P (sync n) m u (Ok synced.1.0) told' sure images last), synced.2)
-        ]
+          let m = written.0 in
+          let step = written.1.1 in
+          let puts = step.answer.2 told in
+          let told' = step_told (write n at bytes) v m (Ok written.1.0) step told in
+          let images : EachImage P m.current = λ c image. torn c (torn_image at (length bytes) v.current.seen m.current (one_pending v.current m.current (record { at = at; len = length bytes }) none puts.pending) puts.outside c image) in
+          let first : Passes P v m = passes_step P (write n at bytes) v m (Ok written.1.0) told step before images in
+          elim written.2 [
+            | inr refused ↦ inl (passes_trans P v m w first (passes_step P (sync n) m w (Err refused.0) told' refused.1 images (refused_sync P n m w refused.0 told' refused.1 images)), (refused.0, refused.2))
+            | inl synced ↦
+                let u = synced.0 in
+                let sure = synced.1.1 in
+                let done = sure.answer.2 told' in
+                let seen : u.current.seen ≡ m.current.seen = ap (λ (x : Moment). x.seen) done in
+                let settled : u.current.pending ≡ [] = ap (λ (x : Moment). x.pending) done in
+                let same : SameOutside at (length bytes) v.current.seen u.current.seen = (let Q : List ℕ → Type 0 = λ c. SameOutside at (length bytes) v.current.seen c in subst Q (sym seen) puts.outside) in
+                let has : Has u.current.seen at bytes = (let Q : List ℕ → Type 0 = λ c. Has c at bytes in subst Q (sym seen) puts.put) in
+                let put : Put at bytes v u = record {
+                  told = step_told (sync n) m u (Ok synced.1.0) sure told';
+                  size = sure.same.size ∙ step.same.size;
+                  settled = settled;
+                  held = sure.answer.1 ∙ step.answer.1;
+                  has = has;
+                  same = same;
+                } in
+                let last : EachImage P u.current = settled_images P u.current settled (torn u.current.seen same) in
+                inr (u, put, passes_trans P v m u first (passes_step P (sync n) m u (Ok synced.1.0) told' sure images last), synced.2)
+          ]
     ]
 
 -- each of the calls is a write or a sync under this number
@@ -184,15 +184,15 @@ pub made_answer : (n : ℕ) (c : Call) (cs : List Call) (v w : DiskView) (result
 unfolding Made
 made_answer n c [] v w result carried made = elim made [
   | inl done ↦
-    let held = step_held n c v done.0 done.1.0 carried done.1.1 in
-    ok_answer n v w result done.2.1 held.0
+      let held = step_held n c v done.0 done.1.0 carried done.1.1 in
+      ok_answer n v w result done.2.1 held.0
   | inr refused ↦ (let P : Result ⊤ DiskFault → Type 0 = λ r. AnsweredBy n v r w in subst P (sym refused.2) (step_refused n c v w refused.0 carried refused.1))
 ]
 made_answer n c (d ∷ cs) v w result carried made =
     let parts = carries_first n c (d ∷ cs) carried in
     elim made [
       | inl done ↦
-        let held = step_held n c v done.0 done.1.0 parts.0 done.1.1 in
-        answered_before n v done.0 w result held.0 held.1 done.1.1.same.faults (made_answer n d cs done.0 w result parts.1 done.2)
+          let held = step_held n c v done.0 done.1.0 parts.0 done.1.1 in
+          answered_before n v done.0 w result held.0 held.1 done.1.1.same.faults (made_answer n d cs done.0 w result parts.1 done.2)
       | inr refused ↦ (let P : Result ⊤ DiskFault → Type 0 = λ r. AnsweredBy n v r w in subst P (sym refused.2) (step_refused n c v w refused.0 parts.0 refused.1))
     ]

@@ -55,10 +55,10 @@ image_read v u header rest image size cap long sized has commit good is_cap same
       header = ap (λ n. first_bad (header_checks (header ++ rest) n)) (sym sized) ∙ ap (λ cs. first_bad cs) (same_header header (header ++ rest) size front) ∙ good;
       cap_is = is_cap ∙ sym (same_number header (header ++ rest) 0 64 12 4 front (omega arith) (omega arith));
       has = λ tells.
-        let there : IsTrue u.tells = (let P : Bool → Type 0 = λ b. IsTrue b in subst P (sym told) tells) in
-        let behind : Has v.current.seen 64 rest = (let P : Moment → Type 0 = λ m. Has m.seen 64 rest in subst P same (has_rest there)) in
-        let behind' : Has v.current.seen (length header) rest = (let P : ℕ → Type 0 = λ n. Has v.current.seen n rest in subst P (sym long) behind) in
-        has_joined v.current.seen header rest (has tells) behind';
+          let there : IsTrue u.tells = (let P : Bool → Type 0 = λ b. IsTrue b in subst P (sym told) tells) in
+          let behind : Has v.current.seen 64 rest = (let P : Moment → Type 0 = λ m. Has m.seen 64 rest in subst P same (has_rest there)) in
+          let behind' : Has v.current.seen (length header) rest = (let P : ℕ → Type 0 = λ n. Has v.current.seen n rest in subst P (sym long) behind) in
+          has_joined v.current.seen header rest (has tells) behind';
     } in
     let P : List ℕ → Type 0 = λ xs. IsRead v xs cap in subst P (sym joined) one
 
@@ -101,25 +101,27 @@ pub taken_err : (n : ℕ) (v w : DiskView) (e : DiskFault) → Made (claim n ∷
 unfolding Made
 taken_err n v w e made = elim made [
   | inr refused ↦
-    let f = refused_claim n v w refused.0 refused.1 in
-    let same : refused.0 ≡ e = cc (refused.2) in
-    let P : DiskFault → Type 0 = λ x. OpenFails n v w (open_fault x) in
-    (subst P same f.0, λ told. passes_step (IsImage v.current) (claim n) v w (Err refused.0) told refused.1 (λ c image. image) (refused_images v v w (f.1 told) (λ c image. image)))
+      let f = refused_claim n v w refused.0 refused.1 in
+      let same : refused.0 ≡ e = cc (refused.2) in
+      let P : DiskFault → Type 0 = λ x. OpenFails n v w (open_fault x) in
+      (subst P same f.0, λ told. passes_step (IsImage v.current) (claim n) v w (Err refused.0) told refused.1 (λ c image. image) (refused_images v v w (f.1 told) (λ c image. image)))
   | inl first ↦
-    let m = first.0 in
-    let step = first.1.1 in
-    elim first.2 [
-      | inr refused ↦
-        let f = refused_sync n v m w refused.0 step.answer.0 step.answer.1 step.same.faults refused.1 in
-        let same : refused.0 ≡ e = cc (refused.2) in
-        let P : DiskFault → Type 0 = λ x. OpenFails n v w (open_fault x) in
-        (subst P same f.0, λ told.
-          let told' = step_told (claim n) v m (Ok first.1.0) step told in
-          let images = claimed_images v m n (step.answer.2 told) in
-          passes_trans (IsImage v.current) v m w (passes_step (IsImage v.current) (claim n) v m (Ok first.1.0) told step (λ c image. image) images)
-            (passes_step (IsImage v.current) (sync n) m w (Err refused.0) told' refused.1 images (refused_images v m w (f.1 told') images)))
-      | inl second ↦ absurd (refuted e second.2.1)
-    ]
+      let m = first.0 in
+      let step = first.1.1 in
+      elim first.2 [
+        | inr refused ↦
+            let f = refused_sync n v m w refused.0 step.answer.0 step.answer.1 step.same.faults refused.1 in
+            let same : refused.0 ≡ e = cc (refused.2) in
+            let P : DiskFault → Type 0 = λ x. OpenFails n v w (open_fault x) in (
+              subst P same f.0,
+              λ told.
+                  let told' = step_told (claim n) v m (Ok first.1.0) step told in
+                  let images = claimed_images v m n (step.answer.2 told) in
+                  passes_trans (IsImage v.current) v m w (passes_step (IsImage v.current) (claim n) v m (Ok first.1.0) told step (λ c image. image) images)
+                  (passes_step (IsImage v.current) (sync n) m w (Err refused.0) told' refused.1 images (refused_images v m w (f.1 told') images)),
+            )
+        | inl second ↦ absurd (refuted e second.2.1)
+      ]
 ]
 
 pub taken_ok : (n : ℕ) (v u : DiskView) (ok : ⊤) → Made (claim n ∷ sync n ∷ []) v (Ok ok) u → Taken n v u
@@ -127,30 +129,30 @@ unfolding Made
 taken_ok n v u ok made = elim made [
   | inr refused ↦ absurd (cc (refused.2))
   | inl first ↦
-    let m = first.0 in
-    let step = first.1.1 in
-    elim first.2 [
-      | inr refused ↦ absurd (cc (refused.2))
-      | inl second ↦
-        let t = second.0 in
-        let sure = second.1.1 in
-        let told' = λ (told : IsTrue v.tells). step_told (claim n) v m (Ok first.1.0) step told in
-        let seen = λ (told : IsTrue v.tells). ap (λ (x : Moment). x.seen) (sure.answer.2 (told' told)) ∙ ap (λ (x : Moment). x.seen) (step.answer.2 told) in
-        let settled = λ (told : IsTrue v.tells). ap (λ (x : Moment). x.pending) (sure.answer.2 (told' told)) in
-        let taken : Taken n v t = record {
-          held_before = step.answer.0;
-          held = sure.answer.1 ∙ step.answer.1;
-          same = same_disk-trans v m t step.same sure.same;
-          settled = settled;
-          seen = seen;
-          passes = λ told.
-            let images = claimed_images v m n (step.answer.2 told) in
-            let Q : List ℕ → Type 0 = IsImage v.current in
-            passes_trans Q v m t (passes_step Q (claim n) v m (Ok first.1.0) told step (λ c image. image) images)
-              (passes_step Q (sync n) m t (Ok second.1.0) (told' told) sure images (settled_images Q t.current (settled told) (subst Q (sym (seen told)) (seen_image v.current))));
-        } in
-        let P : DiskView → Type 0 = λ x. Taken n v x in subst P (sym second.2.0) taken
-    ]
+      let m = first.0 in
+      let step = first.1.1 in
+      elim first.2 [
+        | inr refused ↦ absurd (cc (refused.2))
+        | inl second ↦
+            let t = second.0 in
+            let sure = second.1.1 in
+            let told' = λ (told : IsTrue v.tells). step_told (claim n) v m (Ok first.1.0) step told in
+            let seen = λ (told : IsTrue v.tells). ap (λ (x : Moment). x.seen) (sure.answer.2 (told' told)) ∙ ap (λ (x : Moment). x.seen) (step.answer.2 told) in
+            let settled = λ (told : IsTrue v.tells). ap (λ (x : Moment). x.pending) (sure.answer.2 (told' told)) in
+            let taken : Taken n v t = record {
+              held_before = step.answer.0;
+              held = sure.answer.1 ∙ step.answer.1;
+              same = same_disk-trans v m t step.same sure.same;
+              settled = settled;
+              seen = seen;
+              passes = λ told.
+                  let images = claimed_images v m n (step.answer.2 told) in
+                  let Q : List ℕ → Type 0 = IsImage v.current in
+                  passes_trans Q v m t (passes_step Q (claim n) v m (Ok first.1.0) told step (λ c image. image) images)
+                  (passes_step Q (sync n) m t (Ok second.1.0) (told' told) sure images (settled_images Q t.current (settled told) (subst Q (sym (seen told)) (seen_image v.current))));
+            } in
+            let P : DiskView → Type 0 = λ x. Taken n v x in subst P (sym second.2.0) taken
+      ]
 ]
 
 -- reads make no moment
@@ -163,31 +165,40 @@ passes_read P v u w only passes =
 pub refused_image : (n : ℕ) (v u w : DiskView) (e : OpenFault) → Taken n v u → ReadFails u w e → OpenFails n v w e
 refused_image n v u w Failed taken fault = (taken.held_before, rose_before v.faults u.faults w.faults taken.same.faults fault)
 refused_image n v u w (Fenced held) taken fault = absurd fault
-refused_image n v u w Blank taken fault = (taken.held_before, λ told.
-    let there : IsTrue u.tells = (let P : Bool → Type 0 = λ b. IsTrue b in subst P (sym taken.same.tells) told) in
-    let P : List ℕ → Type 0 = λ xs. get_or xs 0 0 ≡ 0 in subst P (taken.seen told) (fault there))
-refused_image n v u w (BadImage place) taken fault = (taken.held_before, λ told.
-    let there : IsTrue u.tells = (let P : Bool → Type 0 = λ b. IsTrue b in subst P (sym taken.same.tells) told) in
-    let P : List ℕ → Type 0 = λ xs. HeaderFault xs u.size (BadImage place) in
-    let Q : ℕ → Type 0 = λ n. HeaderFault v.current.seen n (BadImage place) in
-    let header : HeaderFault v.current.seen v.size (BadImage place) = subst Q taken.same.size (subst P (taken.seen told) (fault there)) in
-    (header.0, inl header.1))
+refused_image n v u w Blank taken fault = (
+  taken.held_before,
+  λ told.
+      let there : IsTrue u.tells = (let P : Bool → Type 0 = λ b. IsTrue b in subst P (sym taken.same.tells) told) in
+      let P : List ℕ → Type 0 = λ xs. get_or xs 0 0 ≡ 0 in subst P (taken.seen told) (fault there),
+)
+refused_image n v u w (BadImage place) taken fault = (
+  taken.held_before,
+  λ told.
+      let there : IsTrue u.tells = (let P : Bool → Type 0 = λ b. IsTrue b in subst P (sym taken.same.tells) told) in
+      let P : List ℕ → Type 0 = λ xs. HeaderFault xs u.size (BadImage place) in
+      let Q : ℕ → Type 0 = λ n. HeaderFault v.current.seen n (BadImage place) in
+      let header : HeaderFault v.current.seen v.size (BadImage place) = subst Q taken.same.size (subst P (taken.seen told) (fault there)) in
+      (header.0, inl header.1),
+)
 refused_image n v u w Memory taken fault = tt
 
 pub refused_halves : (n : ℕ) (v u w : DiskView) (image : List ℕ) (cap : ℕ) (e : OpenFault) → Taken n v u → IsRead u image cap → HalvesFault image cap e → OpenFails n v w e
-refused_halves n v u w image cap (BadImage place) taken read fault = (taken.held_before, λ told.
-    let there : IsTrue u.tells = (let P : Bool → Type 0 = λ b. IsTrue b in subst P (sym taken.same.tells) told) in
-    let same = has_same u.current.seen image (read.has there) in
-    let whole : SameWithin 0 (image_size cap) image u.current.seen = within_part 0 (length image) 0 (image_size cap) image u.current.seen same (omega arith) (omega (arith, read.size)) in
-    let front : SameWithin 0 64 image u.current.seen = within_part 0 (length image) 0 64 image u.current.seen same (omega arith) (omega (arith, read.size)) in
-    let header : first_bad (header_checks u.current.seen u.size) ≡ None = ap (λ cs. first_bad cs) (same_header image u.current.seen u.size front) ∙ read.header in
-    let cap_is : cap ≡ number_at u.current.seen 12 4 = read.cap_is ∙ sym (same_number image u.current.seen 0 64 12 4 front (omega arith) (omega arith)) in
-    let halves = halves_refused image u.current.seen cap (BadImage place) whole fault in
-    let P : ℕ → Type 0 = λ n. HalvesFault u.current.seen n (BadImage place) in
-    let bad : IsBadImage u.current.seen u.size place = (rw (front 0 (omega arith) (omega arith)) read.commit, inr (header, subst P cap_is halves)) in
-    let Q : List ℕ → Type 0 = λ xs. IsBadImage xs u.size place in
-    let R : ℕ → Type 0 = λ n. IsBadImage v.current.seen n place in
-    subst R taken.same.size (subst Q (taken.seen told) bad))
+refused_halves n v u w image cap (BadImage place) taken read fault = (
+  taken.held_before,
+  λ told.
+      let there : IsTrue u.tells = (let P : Bool → Type 0 = λ b. IsTrue b in subst P (sym taken.same.tells) told) in
+      let same = has_same u.current.seen image (read.has there) in
+      let whole : SameWithin 0 (image_size cap) image u.current.seen = within_part 0 (length image) 0 (image_size cap) image u.current.seen same (omega arith) (omega (arith, read.size)) in
+      let front : SameWithin 0 64 image u.current.seen = within_part 0 (length image) 0 64 image u.current.seen same (omega arith) (omega (arith, read.size)) in
+      let header : first_bad (header_checks u.current.seen u.size) ≡ None = ap (λ cs. first_bad cs) (same_header image u.current.seen u.size front) ∙ read.header in
+      let cap_is : cap ≡ number_at u.current.seen 12 4 = read.cap_is ∙ sym (same_number image u.current.seen 0 64 12 4 front (omega arith) (omega arith)) in
+      let halves = halves_refused image u.current.seen cap (BadImage place) whole fault in
+      let P : ℕ → Type 0 = λ n. HalvesFault u.current.seen n (BadImage place) in
+      let bad : IsBadImage u.current.seen u.size place = (rw (front 0 (omega arith) (omega arith)) read.commit, inr (header, subst P cap_is halves)) in
+      let Q : List ℕ → Type 0 = λ xs. IsBadImage xs u.size place in
+      let R : ℕ → Type 0 = λ n. IsBadImage v.current.seen n place in
+      subst R taken.same.size (subst Q (taken.seen told) bad),
+)
 refused_halves n v u w image cap Memory taken read fault = tt
 refused_halves n v u w image cap Blank taken read fault = absurd fault
 refused_halves n v u w image cap Failed taken read fault = absurd fault

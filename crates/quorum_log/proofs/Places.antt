@@ -18,10 +18,10 @@ from_places xs ys i j zero same = refl
 from_places xs ys i j (suc n) same =
     let here : get_or xs i 0 ≡ get_or ys j 0 = (let s = same 0 (omega arith) in let a : i + 0 ≡ i = omega arith in let b : j + 0 ≡ j = omega arith in rw (a, b) at s) in
     let rest : little_from (suc i) n xs ≡ little_from (suc j) n ys = from_places xs ys (suc i) (suc j) n (λ k below.
-        let s = same (suc k) (omega arith) in
-        let a : i + suc k ≡ suc i + k = omega arith in
-        let b : j + suc k ≡ suc j + k = omega arith in
-        rw (a, b) at s) in
+    let s = same (suc k) (omega arith) in
+    let a : i + suc k ≡ suc i + k = omega arith in
+    let b : j + suc k ≡ suc j + k = omega arith in
+    rw (a, b) at s) in
     rw (here, rest) refl
 
 -- a number by its places
@@ -51,9 +51,9 @@ has_window image at [] each = refl
 has_window image at (b ∷ bs) each =
     let here : get_or image at 0 ≡ b = (let s = each 0 (omega arith) in let a : at + 0 ≡ at = omega arith in rw a at s) in
     let rest : window image (at + 1) (length bs) ≡ bs = has_window image (at + 1) bs (λ k below.
-        let s = each (suc k) (omega arith) in
-        let a : at + suc k ≡ at + 1 + k = omega arith in
-        rw a at s) in
+    let s = each (suc k) (omega arith) in
+    let a : at + suc k ≡ at + 1 + k = omega arith in
+    rw a at s) in
     rw (here, rest) refl
 
 pub length-num : (width value : ℕ) → length (num Little width value) ≡ width
@@ -82,9 +82,9 @@ pub has_right : (image : List ℕ) (at : ℕ) (a b : List ℕ) → Has image at 
 has_right image at a b has = record {
   within = omega (arith, has.within, length-append a b);
   each = λ k below.
-    let s = has.each (length a + k) (omega (arith, length-append a b)) in
-    let e : at + (length a + k) ≡ at + length a + k = omega arith in
-    (rw e at s) ∙ get_or-append-add a b k 0;
+      let s = has.each (length a + k) (omega (arith, length-append a b)) in
+      let e : at + (length a + k) ≡ at + length a + k = omega arith in
+      (rw e at s) ∙ get_or-append-add a b k 0;
 }
 
 pub has_one : (image : List ℕ) (at b : ℕ) → Has image at (b ∷ []) → get_or image at 0 ≡ b
@@ -119,5 +119,5 @@ pub window_is : (image : List ℕ) (at count : ℕ) → at + count ≤ length im
 window_is image at count within =
     let long : length (take count (drop at image)) ≡ count = length-take-le count (drop at image) (omega (arith, length-drop at image)) in
     let same : window image at (length (take count (drop at image))) ≡ take count (drop at image) =
-        has_window image at (take count (drop at image)) (λ k below. sym (get_or-take count (drop at image) k 0 (omega arith) ∙ get_or-drop at image k 0)) in
+    has_window image at (take count (drop at image)) (λ k below. sym (get_or-take count (drop at image) k 0 (omega arith) ∙ get_or-drop at image k 0)) in
     sym same ∙ ap (λ n. window image at n) long

@@ -33,8 +33,17 @@ pub found_half : (image : List ℕ) (cap half start state_size last_size field g
     → AreRecords image (start + half_size cap) (start + 25 + state_size + last_size) records
     → field ≡ number_at image (start + 9) 8 → version ≡ version_of field → base ≡ base_of field → generation ≡ number_at image (start + 1) 8 → base + length records ≤ most_records
     → IsFoundHalf image cap half (record {
-        version = version; cap = cap; half = half; generation = generation; base = base;
-        state_at = start + 25; state = state; last_at = start + 25 + state_size; last = last; records = records })
+      version = version;
+      cap = cap;
+      half = half;
+      generation = generation;
+      base = base;
+      state_at = start + 25;
+      state = state;
+      last_at = start + 25 + state_size;
+      last = last;
+      records = records;
+    })
 found_half image cap half start state_size last_size field generation base version state last records begins lengths valid is_state is_last are is_field is_version is_base is_generation count =
     let state_long : state_size ≡ length state = sym (ap (λ xs. length xs) is_state ∙ length-window image (start + 25) state_size) in
     let last_long : last_size ≡ length last = sym (ap (λ xs. length xs) is_last ∙ length-window image (start + 25 + state_size) last_size) in
@@ -42,7 +51,7 @@ found_half image cap half start state_size last_size field generation base versi
     let state_there : window image (start + 25) (length state) ≡ state = ap (λ n. window image (start + 25) n) (sym state_long) ∙ state_back in
     let last_back : window image (start + 25 + state_size) last_size ≡ last = sym is_last in
     let last_there : window image (start + 25 + length state) (length last) ≡ last =
-        ap (λ n. window image (start + 25 + n) (length last)) (sym state_long) ∙ ap (λ n. window image (start + 25 + state_size) n) (sym last_long) ∙ last_back in
+    ap (λ n. window image (start + 25 + n) (length last)) (sym state_long) ∙ ap (λ n. window image (start + 25 + state_size) n) (sym last_long) ∙ last_back in
     let fields : IsHalf image start version generation base state last = record {
       validity = rw begins valid;
       generation_is = sym is_generation;

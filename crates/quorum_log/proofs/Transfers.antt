@@ -161,10 +161,13 @@ halves_refused image seen cap (BadImage place) same fault =
     let P : ℕ → Type 0 = λ h. (first_bad (length_checks seen cap (half_at cap h)) ≡ Some place) ⊎ IsBadHalf seen cap (half_at cap h) place in
     elim fault [
       | inl here ↦ inl (ap (λ cs. first_bad cs) halves.0 ∙ here)
-      | inr later ↦ inr (ap (λ cs. first_bad cs) halves.0 ∙ later.0, subst P (sym halves.1) (elim later.1 [
-        | inl here ↦ inl (ap (λ cs. first_bad cs) lengths ∙ here)
-        | inr bad ↦ inr (bad_half image seen cap (current_half image cap) place which same bad)
-      ]))
+      | inr later ↦ inr (
+        ap (λ cs. first_bad cs) halves.0 ∙ later.0,
+        subst P (sym halves.1) (elim later.1 [
+          | inl here ↦ inl (ap (λ cs. first_bad cs) lengths ∙ here)
+          | inr bad ↦ inr (bad_half image seen cap (current_half image cap) place which same bad)
+        ]),
+      )
     ]
 halves_refused image seen cap Blank same fault = absurd fault
 halves_refused image seen cap Failed same fault = absurd fault
@@ -190,8 +193,8 @@ pub current_is : (image : List ℕ) (cap : ℕ) → first_bad (halves_checks ima
 current_is image cap e =
     let P : ℕ → Type 0 = λ h. IsCurrent image (half_at cap (1 - h)) (generation_in image cap h) in
     elim (choice (is_valid image cap 0) (is_valid image cap 1) (is_next image cap 0) (is_next image cap 1) 64 (half_at cap 1 + 1) e) [
-      | inl zero ↦ subst P (sym zero.0) (elim zero.1 [ | inl closed ↦ inl (not_valid image cap 1 closed) | inr next ↦ inr (next_is image cap 0 next) ])
-      | inr one ↦ subst P (sym one.0) (elim one.1 [ | inl closed ↦ inl (not_valid image cap 0 closed) | inr next ↦ inr (next_is image cap 1 next) ])
+      | inl zero ↦ subst P (sym zero.0) (elim zero.1 [ inl closed ↦ inl (not_valid image cap 1 closed) | inr next ↦ inr (next_is image cap 0 next) ])
+      | inr one ↦ subst P (sym one.0) (elim one.1 [ inl closed ↦ inl (not_valid image cap 0 closed) | inr next ↦ inr (next_is image cap 1 next) ])
     ]
 
 -- the header's name, version and cap
@@ -261,9 +264,9 @@ holds_seen image seen x whole same is =
     let low : list_at x < end_of x = omega (arith, is.state_most, is.last_most) in
     let inside = tail_within image (end_of x) (list_at x) x.records low is.records in
     holds_by x x.records image seen is whole
-      (within_part 0 (image_size x.cap) 0 64 image seen same (omega arith) (omega arith))
-      (within_part 0 (image_size x.cap) (start_of x) (list_at x) image seen same (omega arith) (omega arith))
-      (kept_current image seen (other_of x) x.generation (within_part 0 (image_size x.cap) (other_of x) (other_of x + 9) image seen same (omega arith) (omega arith)) is.current)
-      (kept_list image seen (end_of x) (list_at x) (end_of x) x.records (omega arith) (within_part 0 (image_size x.cap) (list_at x) (end_of x) image seen same (omega arith) (omega arith)) is.records)
-      (same (tail_of x) (omega arith) (omega arith) ∙ is.closed)
-      is.count
+    (within_part 0 (image_size x.cap) 0 64 image seen same (omega arith) (omega arith))
+    (within_part 0 (image_size x.cap) (start_of x) (list_at x) image seen same (omega arith) (omega arith))
+    (kept_current image seen (other_of x) x.generation (within_part 0 (image_size x.cap) (other_of x) (other_of x + 9) image seen same (omega arith) (omega arith)) is.current)
+    (kept_list image seen (end_of x) (list_at x) (end_of x) x.records (omega arith) (within_part 0 (image_size x.cap) (list_at x) (end_of x) image seen same (omega arith) (omega arith)) is.records)
+    (same (tail_of x) (omega arith) (omega arith) ∙ is.closed)
+    is.count

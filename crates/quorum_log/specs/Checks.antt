@@ -143,8 +143,8 @@ abbrev pub HalvesFault : List ℕ → ℕ → OpenFault → Type 0
 HalvesFault image cap (BadImage place) =
     (first_bad (halves_checks image cap) ≡ Some place)
     ⊎ ((first_bad (halves_checks image cap) ≡ None) × (
-      (first_bad (length_checks image cap (half_at cap (current_half image cap))) ≡ Some place)
-      ⊎ IsBadHalf image cap (half_at cap (current_half image cap)) place))
+    (first_bad (length_checks image cap (half_at cap (current_half image cap))) ≡ Some place)
+    ⊎ IsBadHalf image cap (half_at cap (current_half image cap)) place))
 HalvesFault image cap Memory = Unit {0}
 HalvesFault image cap _ = ⊥
 
@@ -152,5 +152,5 @@ HalvesFault image cap _ = ⊥
 abbrev pub IsBadImage : List ℕ → ℕ → ℕ → Type 0
 IsBadImage image size place =
     (slice_index image 0 ≢ 0) × (
-      (first_bad (header_checks image size) ≡ Some place)
-      ⊎ ((first_bad (header_checks image size) ≡ None) × HalvesFault image (number_at image 12 4) (BadImage place)))
+    (first_bad (header_checks image size) ≡ Some place)
+    ⊎ ((first_bad (header_checks image size) ≡ None) × HalvesFault image (number_at image 12 4) (BadImage place)))

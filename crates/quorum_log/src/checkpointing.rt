@@ -31,12 +31,10 @@ impl Log {
         ensures any_moment { (x : Found) → StandsFor self (D.view disk.old) x → Passes (HoldsEither x (with_checkpoint x state.now last.now)) (D.view disk.old) (D.view disk.new) }
         ensures begun { (x : Found) → StandsFor self (D.view disk.old) x → IfOk result (λ log. StandsFor log (D.view disk.new) (with_checkpoint x state.now last.now)) }
         ensures answer { AnsweredBy self.claim (D.view disk.old) (disk_answer result) (D.view disk.new) }
-        ensures calls {
-            let other = half_at self.cap (1 - self.half) in
+        ensures calls { let other = half_at self.cap (1 - self.half) in
             Made (closing self.other_valid self.claim other
-                ++ write self.claim (other + 1) (half_text (next_generation self.generation) (self.base + self.records) state.now last.now)
-                ∷ sync self.claim ∷ write self.claim other (1 ∷ []) ∷ sync self.claim ∷ []) (D.view disk.old) (disk_answer result) (D.view disk.new)
-        }
+            ++ write self.claim (other + 1) (half_text (next_generation self.generation) (self.base + self.records) state.now last.now)
+            ∷ sync self.claim ∷ write self.claim other (1 ∷ []) ∷ sync self.claim ∷ []) (D.view disk.old) (disk_answer result) (D.view disk.new) }
         ensures begins { IfOk result (λ log. (log.claim ≡ self.claim) × (log.version ≡ 2)) }
     {
         let half = 1 - self.half;

@@ -30,6 +30,7 @@ pub enum AppendFault {
 
 impl From<DiskFault> for OpenFault {
     ghost use Rattle.quorum_log.specs.Faults.{open_fault};
+
     ghost from_gives = { λ fault gives. gives ≡ open_fault fault };
 
     fn from(fault: DiskFault) -> OpenFault {
@@ -42,6 +43,7 @@ impl From<DiskFault> for OpenFault {
 
 impl From<DiskFault> for AppendFault {
     ghost use Rattle.quorum_log.specs.Faults.{append_fault};
+
     ghost from_gives = { λ fault gives. gives ≡ append_fault fault };
 
     fn from(fault: DiskFault) -> AppendFault {
@@ -54,6 +56,7 @@ impl From<DiskFault> for AppendFault {
 
 impl From<AllocError> for OpenFault {
     ghost use Rattle.quorum_log.specs.declared.fault.OpenFault.TheVariants.{Memory};
+
     ghost from_gives = { λ _ gives. gives ≡ Memory };
 
     fn from(_: AllocError) -> OpenFault {
@@ -63,6 +66,7 @@ impl From<AllocError> for OpenFault {
 
 impl<T: Drop> From<AllocFailed<T>> for OpenFault {
     ghost use Rattle.quorum_log.specs.declared.fault.OpenFault.TheVariants.{Memory};
+
     ghost from_gives = { λ _ gives. gives ≡ Memory };
 
     fn from(_: AllocFailed<T>) -> OpenFault {

@@ -30,7 +30,10 @@ impl Found {
         ensures { result ≡ tail_of self.now }
     {
         let start = half_at(self.cap, self.half);
-        let mut at = start + 25 + self.state.as_slice().len() as u64 + self.last.as_slice().len() as u64;
+        let mut at = start
+            + 25
+            + self.state.as_slice().len() as u64
+            + self.last.as_slice().len() as u64;
         let records = self.records.as_slice();
         'records: for record in records {
             at += 5 + record.bytes.as_slice().len() as u64;
@@ -55,7 +58,9 @@ pub struct FoundRecords {
 impl Model for FoundRecords {
     ghost use Rattle.std.specs.Prelude.{List};
     ghost use Rattle.quorum_log.specs.declared.found.FoundRecord.{FoundRecord};
+
     ghost Value = { List FoundRecord };
+
     ghost view = { λ records. records.items.items };
 }
 

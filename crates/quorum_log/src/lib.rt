@@ -4,17 +4,17 @@
 mod appending;
 mod checking;
 mod checkpointing;
-pub mod found;
 mod fault;
-mod formatting;
+pub mod found;
 pub mod layout;
 pub mod log;
 mod opening;
 mod reading;
+#[cfg(test)]
+mod tests;
 mod writing;
 
 pub use fault::{AppendFault, OpenFault};
-
 pub use found::{Found, FoundRecord, FoundRecords};
 pub use layout::image_size;
 pub use log::Log;

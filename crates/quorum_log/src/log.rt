@@ -24,28 +24,31 @@ pub struct Log {
 impl Model for Log {
     ghost use Rattle.std.specs.Prelude.{length};
     ghost use Rattle.quorum_log.specs.Logs.{LogValue, IsSoundLog};
+
     ghost Value = { LogValue };
+
     ghost view = { λ log. record {
-        claim = log.claim;
-        cap = log.cap;
-        half = log.half;
-        version = log.version;
-        generation = log.generation;
-        base = log.base;
-        records = log.records;
-        tail = log.tail;
-        other_valid = log.other_valid;
+      claim = log.claim;
+      cap = log.cap;
+      half = log.half;
+      version = log.version;
+      generation = log.generation;
+      base = log.base;
+      records = log.records;
+      tail = log.tail;
+      other_valid = log.other_valid;
     } };
+
     ghost invariant = { λ log. IsSoundLog (record {
-        claim = log.claim;
-        cap = log.cap;
-        half = log.half;
-        version = log.version;
-        generation = log.generation;
-        base = log.base;
-        records = log.records;
-        tail = log.tail;
-        other_valid = log.other_valid;
+      claim = log.claim;
+      cap = log.cap;
+      half = log.half;
+      version = log.version;
+      generation = log.generation;
+      base = log.base;
+      records = log.records;
+      tail = log.tail;
+      other_valid = log.other_valid;
     }) (length log.buffer.items) };
 }
 

@@ -18,11 +18,7 @@ use std::alloc::Global;
 
 impl Log {
     /// Opens the log that the disk holds, under the fencing token `claim`, and tells what is in it.
-    pub fn open<D: Disk>(
-        alloc: Global,
-        disk: &mut D,
-        claim: u32,
-    ) -> Result<(Log, Found), OpenFault>
+    pub fn open<D: Disk>(alloc: Global, disk: &mut D, claim: u32) -> Result<(Log, Found), OpenFault>
         requires { 64 ≤ (D.view disk.old).size }
         ensures found { IsTrue (D.view disk.old).tells → IfOk result (λ opened. StandsFor opened.0 (D.view disk.new) opened.1) }
         ensures claimed { IfOk result (λ opened. (opened.0.claim ≡ claim) × ((D.view disk.new).current.held ≡ claim)) }

@@ -32,12 +32,7 @@ pub(crate) fn has_magic(header: &[u8]) -> bool
 }
 
 /// Copies the bytes that stand there.
-pub(crate) fn copy(
-    alloc: Global,
-    image: &[u8],
-    at: u64,
-    count: u64,
-) -> Result<Octets, AllocError>
+pub(crate) fn copy(alloc: Global, image: &[u8], at: u64, count: u64) -> Result<Octets, AllocError>
     requires { at + count ≤ length image.now }
     ensures { IfOk result (λ bytes. bytes ≡ window image.now at count) }
 {

@@ -15,7 +15,7 @@ pub returns-in_err-write_then_commit-clause-answer : goal.returns-in_err-write_t
 returns-in_err-write_then_commit-clause-answer g c =
     let log = c.args.self in
     let made : Made (write log.claim (log.tail + 1) (record_text c.args.bytes.now) ∷ sync log.claim ∷ write log.claim log.tail (1 ∷ []) ∷ sync log.claim ∷ [])
-        (g.D.Disk.view c.args.disk.now) (disk_answer c.from_residual.result) (g.D.Disk.view c.write_then_commit.new.disk) = search rules in
+    (g.D.Disk.view c.args.disk.now) (disk_answer c.from_residual.result) (g.D.Disk.view c.write_then_commit.new.disk) = search rules in
     made_answer log.claim _ _ _ _ _ (search rules) made
 
 pub returns-clause-any_moment : goal.returns-clause-any_moment
@@ -32,5 +32,5 @@ pub returns-clause-answer : goal.returns-clause-answer
 returns-clause-answer g c =
     let log = c.args.self in
     let made : Made (write log.claim (log.tail + 1) (record_text c.args.bytes.now) ∷ sync log.claim ∷ write log.claim log.tail (1 ∷ []) ∷ sync log.claim ∷ [])
-        (g.D.Disk.view c.args.disk.now) (disk_answer (Ok log)) (g.D.Disk.view c.write_then_commit.new.disk) = search rules in
+    (g.D.Disk.view c.args.disk.now) (disk_answer (Ok log)) (g.D.Disk.view c.write_then_commit.new.disk) = search rules in
     made_answer log.claim _ _ _ _ _ (search rules) made

@@ -36,7 +36,7 @@ returns-in_err-found-clause-fault g c =
     let taken = taken_ok c.args.claim (g.D.Disk.view c.args.disk.now) (g.D.Disk.view c.take_over.new.disk) c.in_ok-take_over.field-0 c.in_ok-take_over.ensures in
     let p = err_from_is_err_and c.from_residual-in_err-found.result c.from_residual-in_err-found.ensures.1 in
     rw (p.1, p.2) (refused_halves c.args.claim (g.D.Disk.view c.args.disk.now) (g.D.Disk.view c.take_over.new.disk) (g.D.Disk.view c.read_image.new.disk) c.in_ok-image.image.items c.in_ok-image.cap c.in_err-found.field-0.0 taken
-        c.in_ok-image.ensures.image (rw c.deref.ensures.value at c.in_err-found.ensures))
+    c.in_ok-image.ensures.image (rw c.deref.ensures.value at c.in_err-found.ensures))
 
 pub returns-in_err-found-clause-any_moment : goal.returns-in_err-found-clause-any_moment
 returns-in_err-found-clause-any_moment g c = λ told.
@@ -58,7 +58,7 @@ pub returns-clause-found : goal.returns-clause-found
 returns-clause-found g c = λ told.
     let taken = taken_ok c.args.claim (g.D.Disk.view c.args.disk.now) (g.D.Disk.view c.take_over.new.disk) c.in_ok-take_over.field-0 c.in_ok-take_over.ensures in
     rw c.in_ok-log.ensures (opened c.args.claim (g.D.Disk.view c.args.disk.now) (g.D.Disk.view c.take_over.new.disk) (g.D.Disk.view c.read_image.new.disk) c.in_ok-image.image.items c.in_ok-image.cap c.in_ok-found.found
-        c.is_valid-other_valid.result taken c.in_ok-image.ensures.image c.read_image.ensures.only_read (rw c.deref.ensures.value at c.in_ok-found.ensures) (rw c.deref-2.ensures.value at c.is_valid-other_valid.ensures) told)
+    c.is_valid-other_valid.result taken c.in_ok-image.ensures.image c.read_image.ensures.only_read (rw c.deref.ensures.value at c.in_ok-found.ensures) (rw c.deref-2.ensures.value at c.is_valid-other_valid.ensures) told)
 
 pub returns-clause-claimed : goal.returns-clause-claimed
 returns-clause-claimed g c =
