@@ -1,0 +1,66 @@
+-- What a log value keeps, and the log for which it stands.
+use Rattle.std.specs.Prelude.{◌≡◌, ℕ, ◌+◌, ◌-◌, ◌<◌, ◌≤◌, ◌⊎◌, Bool, IsTrue, not, ◌==◌, List, [], length, slice_index, Result, Ok, Err, ⊤}
+use Rattle.causes.specs.Counts.{Rose}
+use Rattle.disk_core.specs.declared.fault.DiskFault.{DiskFault}
+use Rattle.disk_core.specs.declared.fault.DiskFault.TheVariants as disk_faults
+use Rattle.disk_core.specs.Views.{DiskView}
+use Rattle.quorum_log.specs.declared.found.Found.{Found}
+use Rattle.quorum_log.specs.Layout.{half_size, half_at, most_records}
+use Rattle.quorum_log.specs.Image.{Holds, tail_of, other_of}
+
+pub record LogValue : Type 0 where
+  -- the fencing token of its writes
+  pub claim : ℕ
+  pub cap : ℕ
+  pub half : ℕ
+  pub version : ℕ
+  pub generation : ℕ
+  pub base : ℕ
+  -- how many records the current half has
+  pub records : ℕ
+  -- where the commit byte behind them stands
+  pub tail : ℕ
+  -- whether the other half is valid too
+  pub other_valid : Bool
+
+-- The parts of a log value fit together.
+pub record IsSoundLog (log : LogValue) (buffer : ℕ) : Type 0 where
+  pub cap_least : 4096 ≤ log.cap
+  pub cap_most : log.cap ≤ 16_777_216
+  pub half : (log.half ≡ 0) ⊎ (log.half ≡ 1)
+  pub tail_least : half_at log.cap log.half ≤ log.tail
+  pub tail_most : log.tail < half_at log.cap log.half + half_size log.cap
+  pub count : log.base + log.records ≤ most_records
+  pub room : buffer ≡ log.cap + 57_369
+
+-- A record of that length and the commit byte behind it lie within the half.
+abbrev pub Fits : LogValue → ℕ → Type 0
+Fits log count = log.tail + 5 + count < half_at log.cap log.half + half_size log.cap
+
+-- Nothing is pending, the disk tells its content and holds x, and the log value is that of x.
+pub record StandsFor (log : LogValue) (v : DiskView) (x : Found) : Type 0 where
+  pub told : IsTrue v.tells
+  pub settled : v.current.pending ≡ []
+  pub holds : Holds v.current.seen x
+  pub cap : log.cap ≡ x.cap
+  pub half : log.half ≡ x.half
+  pub version : log.version ≡ x.version
+  pub generation : log.generation ≡ x.generation
+  pub base : log.base ≡ x.base
+  pub records : log.records ≡ length x.records
+  pub tail : log.tail ≡ tail_of x
+  pub other : log.other_valid ≡ not (slice_index v.current.seen (other_of x) == 0)
+
+-- The value of the log that holds x.
+abbrev pub log_of : ℕ → Found → Bool → LogValue
+log_of claim x other_valid = record {
+  claim = claim;
+  cap = x.cap;
+  half = x.half;
+  version = x.version;
+  generation = x.generation;
+  base = x.base;
+  records = length x.records;
+  tail = tail_of x;
+  other_valid = other_valid;
+}

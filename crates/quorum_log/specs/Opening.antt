@@ -1,0 +1,38 @@
+-- What opening a log finds, and why it fails.
+use Rattle.std.specs.Prelude.{◌≡◌, ◌≢◌, ℕ, ◌<◌, ◌≤◌, IsTrue, List, length, slice_index, None, Result, Ok, Err, ⊤}
+use Rattle.causes.specs.Counts.{Rose}
+use Rattle.disk_core.specs.Images.{Has}
+use Rattle.disk_core.specs.Views.{DiskView}
+use Rattle.disk_core.specs.Calls.{SameDisk}
+use Rattle.quorum_log.specs.declared.fault.OpenFault.{OpenFault}
+use Rattle.quorum_log.specs.declared.fault.OpenFault.TheVariants.{Failed, Fenced, Blank, BadImage, Memory}
+use Rattle.quorum_log.specs.Layout.{number_at, image_size}
+use Rattle.quorum_log.specs.Checks.{first_bad, header_checks, HeaderFault, IsBadImage}
+
+-- Why a log wasn't opened under that token.
+abbrev pub OpenFails : ℕ → DiskView → DiskView → OpenFault → Type 0
+OpenFails token v w Failed = (v.current.held ≤ token) × Rose v.faults w.faults
+OpenFails token v w (Fenced held) = (token < v.current.held) × (held ≡ v.current.held)
+OpenFails token v w Blank = (v.current.held ≤ token) × (IsTrue v.tells → slice_index v.current.seen 0 ≡ 0)
+OpenFails token v w (BadImage place) = (v.current.held ≤ token) × (IsTrue v.tells → IsBadImage v.current.seen v.size place)
+OpenFails token v w Memory = Unit {0}
+
+-- Reads alone were made.
+pub record OnlyRead (v w : DiskView) : Type 0 where
+  pub same : SameDisk v w
+  pub past : w.past ≡ v.past
+  pub current : w.current ≡ v.current
+
+pub record IsRead (v : DiskView) (image : List ℕ) (cap : ℕ) : Type 0 where
+  pub size : length image ≡ image_size cap
+  pub commit : slice_index image 0 ≢ 0
+  pub header : first_bad (header_checks image v.size) ≡ None
+  pub cap_is : cap ≡ number_at image 12 4
+  pub has : IsTrue v.tells → Has v.current.seen 0 image
+
+abbrev pub ReadFails : DiskView → DiskView → OpenFault → Type 0
+ReadFails v w Failed = Rose v.faults w.faults
+ReadFails v w (Fenced held) = ⊥
+ReadFails v w Blank = IsTrue v.tells → slice_index v.current.seen 0 ≡ 0
+ReadFails v w (BadImage place) = IsTrue v.tells → HeaderFault v.current.seen v.size (BadImage place)
+ReadFails v w Memory = Unit {0}

@@ -1,0 +1,20 @@
+//! The quorum log: a list of records behind a state, which survives a crash at any moment of a write.
+#![tactic(auto)]
+
+mod appending;
+mod checking;
+mod checkpointing;
+mod fault;
+pub mod found;
+pub mod layout;
+pub mod log;
+mod opening;
+mod reading;
+#[cfg(test)]
+mod tests;
+mod writing;
+
+pub use fault::{AppendFault, OpenFault};
+pub use found::{Found, FoundRecord, FoundRecords};
+pub use layout::image_size;
+pub use log::Log;
