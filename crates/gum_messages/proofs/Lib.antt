@@ -3,3 +3,5 @@ pub mod Ascending
 pub mod Placing
 pub mod Beside
 pub mod Branches
+pub mod BodyLaws
+pub mod MessageLaws

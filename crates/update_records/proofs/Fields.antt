@@ -271,7 +271,7 @@ pub record FoundData (end : ℕ) (s : Reading) (bytes : List ℕ) (t : Reading) 
   pub are_bytes : IsBytes bytes
   pub within : t.place ≤ end
 
-front_bytes : (s t : Reading) (text : List ℕ) → IsInput s → Took s text t → IsBytes text
+pub front_bytes : (s t : Reading) (text : List ℕ) → IsInput s → Took s text t → IsBytes text
 front_bytes s t text input took =
     let whole : IsBytes (take (length text) s.left) = IsBytes-take (length text) s.left input.bytes in
     let front : take (length text) s.left ≡ text = ap (λ l. take (length text) l) took.parts ∙ take_at text t.left (length text) refl in

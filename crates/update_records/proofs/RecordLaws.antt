@@ -166,7 +166,7 @@ update_read (DeleteKey key birth subkey) place rest h room = change_update (chan
 abbrev alone_of : {A : Type 0} → Bool → A × Reading → Result A ℕ
 alone_of ended x = cond ended (Ok x.0) (Err x.1.place)
 
-alone_found : {A : Type 0} (x : A × Reading) (y : A) → alone x ≡ Ok y → (x.1.left ≡ []) × (x.0 ≡ y)
+pub alone_found : {A : Type 0} (x : A × Reading) (y : A) → alone x ≡ Ok y → (x.1.left ≡ []) × (x.0 ≡ y)
 alone_found {A} x y e = by (eqb (length x.1.left) 0) refl e
   where
     by : (b : Bool) → eqb (length x.1.left) 0 ≡ b → alone_of b x ≡ Ok y → (x.1.left ≡ []) × (x.0 ≡ y)
@@ -176,7 +176,7 @@ alone_found {A} x y e = by (eqb (length x.1.left) 0) refl e
 pub started : (bytes : List ℕ) → IsBytes bytes → IsInput (start bytes)
 started bytes h = record { bytes = h; order = refl }
 
-all_taken : (bytes text : List ℕ) (t : Reading) → Took (start bytes) text t → t.left ≡ [] → bytes ≡ text
+pub all_taken : (bytes text : List ℕ) (t : Reading) → Took (start bytes) text t → t.left ≡ [] → bytes ≡ text
 all_taken bytes text t took nothing = took.parts ∙ ap (λ l. text ++ l) nothing ∙ append-nil text
 
 abbrev IsUpdateOf : List ℕ → Update → Type 0

@@ -20,6 +20,7 @@ pub use changes::Changes;
 pub use decoding::{decode, decode_first, decode_update};
 pub use encoding::{encode, encode_update};
 pub use fault::RecordFault;
+pub use reading::{u8_between, u16_between, u32_between, u32_field, u64_between, u64_field};
 pub use update::Update;
 pub use update_id::UpdateId;
 pub use update_record::Record;

@@ -1,4 +1,5 @@
-//! Single fields, each with the place at which it is at fault.
+//! Single fields, each with the place at which it is at fault: the first byte of a field that is cut off, ends past
+//! `end`, or breaks its rule. Formats that hold records read their own numbers with them.
 
 ghost use Rattle.std.specs.Prelude.{◌≡◌, ◌≤◌, length, IfOk};
 ghost use Rattle.clus_names.specs.Limits.{lacks_zero};
@@ -16,6 +17,7 @@ const MOST_DATA_BYTES: u32 = 49_152;
 
 const MOST_UNITS: u16 = 1023;
 
+/// A number of 1 byte from `low` to `high`.
 pub fn u8_between(fields: &mut Fields<'_>, low: u8, high: u8, end: usize) -> Result<u8, RecordFault>
     ensures taken { Takes (λ value. value) result (field_at (number_at 1) (between low high) end fields.old) fields.new }
     ensures bounds { IfOk result (λ value. (low ≤ value) × (value ≤ high)) }
@@ -33,6 +35,7 @@ pub fn u8_between(fields: &mut Fields<'_>, low: u8, high: u8, end: usize) -> Res
     Ok(value)
 }
 
+/// A number of 2 bytes from `low` to `high`.
 pub fn u16_between(
     fields: &mut Fields<'_>,
     low: u16,
@@ -55,6 +58,7 @@ pub fn u16_between(
     Ok(value)
 }
 
+/// A number of 4 bytes from `low` to `high`.
 pub fn u32_between(
     fields: &mut Fields<'_>,
     low: u32,
@@ -77,6 +81,7 @@ pub fn u32_between(
     Ok(value)
 }
 
+/// A number of 8 bytes from `low` to `high`.
 pub fn u64_between(
     fields: &mut Fields<'_>,
     low: u64,
@@ -99,6 +104,7 @@ pub fn u64_between(
     Ok(value)
 }
 
+/// Any number of 4 bytes.
 pub fn u32_field(fields: &mut Fields<'_>, end: usize) -> Result<u32, RecordFault>
     ensures { Takes (λ value. value) result (field_at (number_at 4) anything end fields.old) fields.new }
 {
@@ -112,6 +118,7 @@ pub fn u32_field(fields: &mut Fields<'_>, end: usize) -> Result<u32, RecordFault
     Ok(value)
 }
 
+/// Any number of 8 bytes.
 pub fn u64_field(fields: &mut Fields<'_>, end: usize) -> Result<u64, RecordFault>
     ensures { Takes (λ value. value) result (field_at (number_at 8) anything end fields.old) fields.new }
 {
