@@ -24,6 +24,7 @@ pub use reading::{u8_between, u16_between, u32_between, u32_field, u64_between, 
 pub use update::Update;
 pub use update_id::UpdateId;
 pub use update_record::Record;
+pub use writing::{put_counted, put_data};
 
 #[cfg(test)]
 mod tests;

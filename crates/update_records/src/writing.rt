@@ -28,8 +28,9 @@ fn put_units(put: &mut Put, units: &[u16]) -> Result<(), AllocError>
     Ok(())
 }
 
+/// A name: how many units, and the units.
 #[tactic(auto, unfolding(crate::specs::Spelling::name_text))]
-fn put_counted(put: &mut Put, units: &[u16]) -> Result<(), AllocError>
+pub fn put_counted(put: &mut Put, units: &[u16]) -> Result<(), AllocError>
     requires order { put.old.endian ≡ Little }
     requires short { length units.now ≤ 1023 }
     ensures { Appends result put.old put.new (name_text units.now) }
@@ -54,8 +55,9 @@ fn put_path(put: &mut Put, path: &Path) -> Result<(), AllocError>
     put_counted(put, path.units())
 }
 
+/// Data of a value: how many bytes, and the bytes.
 #[tactic(auto, unfolding(crate::specs::Spelling::data_text))]
-fn put_data(put: &mut Put, bytes: &Octets) -> Result<(), AllocError>
+pub fn put_data(put: &mut Put, bytes: &Octets) -> Result<(), AllocError>
     requires order { put.old.endian ≡ Little }
     requires short { length bytes.now ≤ 49152 }
     ensures written { Appends result put.old put.new (data_text bytes.now) }

@@ -1,0 +1,12 @@
+pub mod Keys
+pub mod Sections
+pub mod Sizes
+pub mod Changes
+pub mod Applying
+pub mod Readings
+pub mod Rising
+pub mod Limits
+pub mod Spelling
+pub mod Nodes
+pub mod Growth
+pub mod Contents

@@ -1,0 +1,15 @@
+pub mod Lists
+pub mod Places
+pub mod Kept
+pub mod Entries
+pub mod Under
+pub mod Plug
+pub mod Levels
+pub mod Descents
+pub mod Creations
+pub mod Deletions
+pub mod Subkeys
+pub mod Totals
+pub mod Texts
+pub mod Spelled
+pub mod Longest

@@ -1,0 +1,10 @@
+use Rattle.std.proofs.Common.{◌≡◌, ◌≤◌, max, drop, length}
+use Rattle.registry_defs.specs.Readings.{longest}
+use Rattle.registry_tree.specs.declared.value.Value.{Value}
+use Rattle.registry_tree.proofs.counting.longest_name.Given as goal
+
+abbrev pub invariant-values : goal.invariant-values
+invariant-values l = record {
+  exact : max l.most (longest (λ (value : Value). length value.name) (drop l.value-index l.values)) ≡ longest (λ (value : Value). length value.name) l.values;
+  short : l.most ≤ 1023;
+}

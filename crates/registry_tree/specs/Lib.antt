@@ -1,0 +1,4 @@
+pub mod Values
+pub mod Level
+pub mod Weights
+pub mod Places
