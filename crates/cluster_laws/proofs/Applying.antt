@@ -1,0 +1,173 @@
+-- Records are applied: folds, and the rule for an Apply.
+use Rattle.std.proofs.Common.{◌≡◌, ◌≢◌, ℕ, zero, suc, ◌+◌, ◌<◌, ◌≤◌, Bool, true, false, not, ◌&&◌, List, [], ◌∷◌, ◌++◌, length, take, Option, Some, nat_eq, nat_lt, slice_get, refl, sym, ap, ◌∙◌, subst, add-one, arith}
+use Rattle.gum_messages.specs.declared.member.Member.{Member}
+use Rattle.gum_messages.specs.Members.{inc_of, is_locker, locker_of}
+use Rattle.gum_messages.specs.Places.{at_place}
+use Rattle.gum_messages.proofs.Branches.{if_cases, option_cases}
+use Rattle.gum_messages.proofs.Placing.{place_within}
+use Rattle.update_records.specs.Entry.{Entry}
+use Rattle.view_reconcile.specs.Joining.{ReconcileState}
+use Rattle.view_reconcile.specs.Joining as joining
+use Rattle.cluster_rules.specs.Machines.{Machine, registry_at, replay}
+use Rattle.cluster_rules.specs.Packets.{Packet, Applied}
+use Rattle.cluster_rules.specs.Nodes.{Effect, NodeState, Out, Replica, Send, done_of, has_state, packet}
+use Rattle.cluster_rules.specs.Updates.{applied, applies, on_apply, replica_after}
+use Rattle.cluster_rules.specs.Worlds.{World, absorb}
+use Rattle.gum_core.proofs.Cases.{applying_cases}
+use Rattle.cluster_laws.proofs.Inv.{AckOk, Invariant, LoggedIn, MemberOk, NodeOk, Pooled}
+use Rattle.cluster_laws.proofs.Stable.{Grown}
+use Rattle.cluster_laws.proofs.Moves.{move_keeps, moved, node_in, none_acked, one_told, reached_self, stay_keeps, stay_sends, told}
+
+-- GUARDS
+pub and_true : (a b : Bool) → (a && b) ≡ true → (a ≡ true) × (b ≡ true)
+and_true true b e = (refl, e)
+and_true false b e = cc
+
+pub not_true : (b : Bool) → not b ≡ true → b ≡ false
+not_true true e = cc
+not_true false e = refl
+
+pub eq_true : (a b : ℕ) → nat_eq a b ≡ true → a ≡ b
+eq_true a b e = grind arith
+
+pub lt_true : (a b : ℕ) → nat_lt a b ≡ true → a < b
+lt_true a b e = grind arith
+
+pub lt_false : (a b : ℕ) → nat_lt a b ≡ false → b ≤ a
+lt_false a b e = grind arith
+
+-- the locker of a list of members
+pub locker_is : (ms : List Member) (n : ℕ) → is_locker ms n ≡ true → locker_of ms ≡ n
+locker_is [] n e = cc
+locker_is (m ∷ ms) n e = eq_true m.node n e
+
+pub locker_not : (b : Bool) → b ≡ true → b ≡ false → ⊥
+locker_not true e f = cc
+locker_not false e f = cc
+
+-- FOLDS
+module _ (M : Machine) where
+  pub replay_snoc : (l : List Entry) (r : Entry) (g : M.Registry) → replay M (l ++ r ∷ []) g ≡ (M.apply r (replay M l g)).0
+  replay_snoc [] r g = refl
+  replay_snoc (x ∷ l) r g = replay_snoc l r (M.apply x g).0
+
+  pub replay_next : (l : List Entry) (k : ℕ) (r : Entry) (g : M.Registry) → slice_get l k ≡ Some r → replay M (take (suc k) l) g ≡ (M.apply r (replay M (take k l) g)).0
+  replay_next [] k r g e = absurd (cc)
+  replay_next (x ∷ l) zero r g e = let q : x ≡ r = cc in ap (λ (t : Entry). (M.apply t g).0) q
+  replay_next (x ∷ l) (suc k) r g e = replay_next l k r (M.apply x g).0 e
+
+  pub fold_next : (cap : ℕ) (l : List Entry) (k : ℕ) (r : Entry) → at_place l (k + 1) ≡ Some r → registry_at M cap l (k + 1) ≡ (M.apply r (registry_at M cap l k)).0
+  fold_next cap l k r e = rw add-one (replay_next l k r (M.empty cap) (rw add-one at e))
+
+module _ {M : Machine} where
+  pub done_at : (x : NodeState M) (s : Replica M) → x.replica ≡ Some s → done_of x ≡ s.done
+  done_at x s e = rw e refl
+
+  pub state_of : (x : NodeState M) → has_state x ≡ true → (s : Replica M) × (x.replica ≡ Some s)
+  state_of x h = option_cases (λ (b : Bool). b ≡ true → (s : Replica M) × (x.replica ≡ Some s)) x.replica false (λ r. true) (λ a e. absurd (let z : ◌≡◌ {A = Bool} false true = e in cc)) (λ r a e. (r, a)) h
+
+  -- the replica after one record more
+  abbrev pub next_replica : Entry → Replica M → Replica M
+  next_replica r s = record { registry = (M.apply r s.registry).0; done = s.done + 1 }
+
+  pub replica_next : (x : NodeState M) (r : Entry) (s : Replica M) → x.replica ≡ Some s → replica_after r x.replica ≡ Some (next_replica r s)
+  replica_next x r s e = rw e refl
+
+  pub done_next : (x : NodeState M) (r : Entry) (s : Replica M) → x.replica ≡ Some s → done_of (applied r x) ≡ s.done + 1
+  done_next x r s e = rw e refl
+
+  pub state_next : (x : NodeState M) (r : Entry) (s : Replica M) → x.replica ≡ Some s → has_state (applied r x) ≡ true
+  state_next x r s e = rw e refl
+
+  -- the registry and the last record after the next record of the order
+  pub next_registry : (w : World M) (n : ℕ) (x : NodeState M) (r : Entry) (s : Replica M) → NodeOk w n x → x.replica ≡ Some s → at_place w.log.order (s.done + 1) ≡ Some r → (t : Replica M) → replica_after r x.replica ≡ Some t → t.registry ≡ registry_at M w.log.cap w.log.order t.done
+  next_registry w n x r s h st here t e =
+      let q : Some (next_replica r s) ≡ Some t = sym (replica_next x r s st) ∙ e in
+      let eq : next_replica r s ≡ t = cc in
+      subst (λ (u : Replica M). u.registry ≡ registry_at M w.log.cap w.log.order u.done) eq (ap (λ (g : M.Registry). (M.apply r g).0) (h.registry s st) ∙ sym (fold_next M w.log.cap w.log.order s.done r here))
+
+  pub next_last : (w : World M) (x : NodeState M) (r : Entry) (s : Replica M) → x.replica ≡ Some s → at_place w.log.order (s.done + 1) ≡ Some r → (t : Replica M) → replica_after r x.replica ≡ Some t → ◌≡◌ {A = Option Entry} (Some r) (at_place w.log.order t.done)
+  next_last w x r s st here t e =
+      let q : Some (next_replica r s) ≡ Some t = sym (replica_next x r s st) ∙ e in
+      let eq : next_replica r s ≡ t = cc in
+      subst (λ (u : Replica M). Some r ≡ at_place w.log.order u.done) eq (sym here)
+
+  -- the node that applied the next record of the order
+  pub apply_node : (w : World M) (n : ℕ) (x : NodeState M) (r : Entry) (s : Replica M) → Invariant w → w.nodes n ≡ Some x → x.replica ≡ Some s → joining.is_ready x.join ≡ true → joining.locks x.join ≡ false → LoggedIn w.log r x.join.view.number → r.place ≡ s.done + 1
+      → NodeOk w n (applied r x)
+  apply_node w n x r s j at st rd nl lg pl =
+      let h : NodeOk w n x = j.nodes n x at in
+      let d : done_of x ≡ s.done = done_at x s st in
+      let d' : done_of (applied r x) ≡ s.done + 1 = done_next x r s st in
+      let here : at_place w.log.order (s.done + 1) ≡ Some r = subst (λ (k : ℕ). at_place w.log.order k ≡ Some r) pl lg.at in
+      let within : s.done + 1 ≤ length w.log.order = (place_within w.log.order (s.done + 1) r here).1 in
+      record {
+        node = h.node;
+        inc = h.inc;
+        positive = h.positive;
+        core_node = h.core_node;
+        core_members = h.core_members;
+        core_open = h.core_open;
+        entries = h.entries;
+        view = h.view;
+        peopled = h.peopled;
+        ready_view = h.ready_view;
+        pull = h.pull;
+        pulled = h.pulled;
+        marked = h.marked;
+        all_ready = h.all_ready;
+        idle = h.idle;
+        unsettled = h.unsettled;
+        spreading = h.spreading;
+        waiting = h.waiting;
+        waiting_doubt = h.waiting_doubt;
+        behind = h.behind;
+        finished = h.finished;
+        within = omega (arith, d', within);
+        registry = next_registry w n x r s h st here;
+        last = next_last w x r s st here;
+        ready_state = λ c. let k = h.ready_state c in (state_next x r s st, k.1, k.2, omega (arith, k.3, d, d'));
+        below = λ v c i b. omega (arith, d', j.log.bounds v c r i (record { at = lg.at }) (omega (arith, lg.view)));
+        unready = λ c i f. absurd (locker_not (joining.is_ready x.join) rd f);
+        closed = λ a b c. absurd (locker_not (joining.locks x.join) b nl);
+        lock = λ l e. absurd (locker_not (joining.locks x.join) (h.lock l e).1 nl);
+        settled = λ k e. let t = h.settled k e in (t.0, t.1, t.2, t.3, omega (arith, t.4, d, d'), t.5);
+      }
+
+  pub apply_grown : (x : NodeState M) (r : Entry) (s : Replica M) → x.replica ≡ Some s → Grown x (applied r x)
+  apply_grown x r s st = record { inc = refl; done = omega (arith, done_at x s st, done_next x r s st); passed = omega arith; asks = omega arith; view = omega arith; waits = λ e q z. z }
+
+  pub on_apply_keeps : (w : World M) (n : ℕ) (x : NodeState M) (from : ℕ) (r : Entry) → Invariant w → w.nodes n ≡ Some x → LoggedIn w.log r x.join.view.number → Invariant (absorb n (on_apply x from r) w)
+  on_apply_keeps w n x from r j at lg =
+      let h : NodeOk w n x = j.nodes n x at in
+      let P : Out M → Type 0 = λ o. Invariant (absorb n o w) in
+      if_cases P (joining.is_ready x.join && not (joining.locks x.join)) _ _
+      (λ g.
+      let g1 = and_true (joining.is_ready x.join) (not (joining.locks x.join)) g in
+      let rd : joining.is_ready x.join ≡ true = g1.0 in
+      let nl : joining.locks x.join ≡ false = not_true (joining.locks x.join) g1.1 in
+      let st = state_of x (h.ready_state rd).0 in
+      let d : done_of x ≡ st.0.done = done_at x st.0 st.1 in
+      let nz : x.join.view.number ≢ 0 = h.ready_view rd in
+      let here = h.view nz in
+      let tells_ : (y : NodeState M) → y.join.view ≡ x.join.view → y.join.node ≡ x.join.node → r.place ≤ done_of y → Pooled (moved w n y (Send (packet y from (Applied r.place)) ∷ [])) (packet y from (Applied r.place)) =
+      λ y vw nd dn. told w n x y (Send (packet y from (Applied r.place)) ∷ []) from (Applied r.place) h nz vw nd (reached_self w n y (Send (packet y from (Applied r.place)) ∷ []) (inc_of x.join.view.members n) r.place (omega (arith, h.inc, here.1)) dn) in
+      applying_cases (λ dc. P (applies x from r dc)) (done_of x) r.place
+      (λ pl0.
+      let pl : r.place ≡ st.0.done + 1 = pl0 ∙ ap (λ (k : ℕ). k + 1) d in
+      let y : NodeState M = applied r x in
+      let es : List Effect = Send (packet y from (Applied r.place)) ∷ [] in
+      let dn : done_of y ≡ st.0.done + 1 = done_next x r st.0 st.1 in
+      let gr : Grown x y = apply_grown x r st.0 st.1 in
+      move_keeps w n x y es j at (record {
+        grown = gr;
+        node = node_in w n x y es j at gr (apply_node w n x r st.0 j at st.1 rd nl lg pl);
+        messages = one_told (λ (q : Packet). Pooled (moved w n y es) q) (packet y from (Applied r.place)) (tells_ y refl refl (omega (arith, pl, dn)));
+        acks = none_acked (λ (a b : ℕ). AckOk (moved w n y es) a b);
+        owner = λ o. absurd (locker_not (joining.locks x.join) o.locker nl);
+        member = λ a z ne o k op i. let old : MemberOk w.log z.core.lock n x = k.members op n x at i in
+            record { near = omega (arith, old.near, d, dn); free = λ f. omega (arith, old.free f, d, dn); heads = old.heads };
+      }))
+      (λ le. stay_sends w n x from (Applied r.place) j at (tells_ x refl refl le))
+      (λ far. stay_keeps w n x j at))
+      (λ g. stay_keeps w n x j at)

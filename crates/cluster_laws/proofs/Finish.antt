@@ -1,0 +1,110 @@
+-- To finish a request, and what rests on it.
+use Rattle.std.proofs.Common.{◌≡◌, ◌≢◌, ℕ, ◌+◌, ◌<◌, ◌≤◌, Bool, true, false, List, [], ◌∷◌, length, drop, Option, Some, None, nat_lt, cond, if◌then◌else◌, slice_get, refl, sym, ap, ◌∙◌, subst, arith}
+use Rattle.gum_messages.specs.Members.{inc_of}
+use Rattle.gum_messages.proofs.Placing.{place_within}
+use Rattle.update_records.specs.Entry.{Entry}
+use Rattle.update_records.specs.declared.update.Update.{Update}
+use Rattle.gum_core.specs.Updating.{CoreState, greatest_of}
+use Rattle.gum_core.specs.Updating as updating
+use Rattle.view_reconcile.specs.Joining.{ReconcileState}
+use Rattle.view_reconcile.specs.Joining as joining
+use Rattle.cluster_rules.specs.Machines.{Machine}
+use Rattle.cluster_rules.specs.Packets.{Packet, Ask, Release}
+use Rattle.cluster_rules.specs.Nodes.{Acked, Effect, NodeState, Send, asks, locker_at, packet}
+use Rattle.cluster_rules.specs.Updates.{proceeds}
+use Rattle.cluster_rules.specs.Worlds.{World, absorb, acked, sent}
+use Rattle.cluster_laws.proofs.Inv.{AckOk, AllReached, Has, Invariant, NodeOk, Pooled, Stands, at_head, greatest_asked}
+use Rattle.cluster_laws.proofs.Stable.{Ext, Grown, all_reached}
+use Rattle.cluster_laws.proofs.Moves.{ext_absorb, moved, one_acked, self_node, slice_get_back, told}
+use Rattle.cluster_laws.proofs.Heads.{HeadOk, ask_told, asks_acks, asks_least, asks_told, cons_told, full_asks, head_keeps, headed, not_asked, not_asked_doubt}
+
+pub if_some : (b : Bool) (a req : ℕ) → cond b (Some a) None ≡ Some req → (b ≡ true) × (a ≡ req)
+if_some true a req e = (refl, cc)
+if_some false a req e = cc
+
+module _ {M : Machine} where
+  -- what to finish a request needs
+  pub record Done (w : World M) (n : ℕ) (x : NodeState M) (r : Entry) : Type 0 where
+    pub ready : joining.is_ready x.join ≡ true
+    pub full : x.core.queue ≢ []
+    pub stands : Stands w.log r
+    pub id : Has r n x.join.inc (at_head x)
+    pub later : (u c : ℕ) → w.log.count u ≡ Some c → x.join.view.number < u → r.place ≤ c
+    pub members : AllReached w x.join.view.members r.place
+
+  pub done_ack : (w : World M) (n : ℕ) (x y : NodeState M) (es : List Effect) (r : Entry) → Invariant w → w.nodes n ≡ Some x → Grown x y → Done w n x r → AckOk (moved w n y es) x.join.view.number r.place
+  done_ack w n x y es r j at g d =
+      let h : NodeOk w n x = j.nodes n x at in
+      record {
+        view = x.join.view;
+        declared = (h.view (h.ready_view d.ready)).0;
+        place = (place_within w.log.order r.place r d.stands.at).1;
+        later = d.later;
+        members = all_reached w (moved w n y es) x.join.view.members r.place (ext_absorb w n x y es at g) d.members;
+      }
+
+  abbrev pub popped : NodeState M → NodeState M
+  popped x = headed x (x.core.passed + 1) (drop 1 x.core.queue) None None None None
+
+  pub popped_asks : (x : NodeState M) → x.core.passed + 1 ≤ greatest_asked (popped x)
+  popped_asks x = asks_least (popped x)
+
+  pub popped_grown : (x : NodeState M) → x.core.queue ≢ [] → Grown x (popped x)
+  popped_grown x f = record { inc = refl; done = omega arith; passed = omega arith; asks = omega (arith, full_asks x f, popped_asks x); view = omega arith; waits = λ e q z. absurd (omega arith) }
+
+  -- the head leaves: told with the acknowledgement and these messages
+  pub pop_ok : (w : World M) (n : ℕ) (x : NodeState M) (r : Entry) (es : List Effect) → Invariant w → w.nodes n ≡ Some x → Done w n x r
+      → acked es ≡ (x.join.view.number, r.place) ∷ []
+      → ((k : ℕ) (p : Packet) → slice_get (sent es) k ≡ Some p → Pooled (moved w n (popped x) es) p)
+      → HeadOk w n x (popped x) es
+  pop_ok w n x r es j at d ea ms =
+      let gr : Grown x (popped x) = popped_grown x d.full in
+      let fa : greatest_asked x ≡ x.core.passed + 1 = full_asks x d.full in
+      record {
+        more = omega arith;
+        more_asks = gr.asks;
+        still = λ e q z. absurd (omega arith);
+        new = λ s wt st id. absurd (not_asked w n x s (at_head (popped x)) j at st id (omega (arith, fa)));
+        new_doubt = λ s wt st id. absurd (not_asked_doubt w n x s (at_head (popped x)) j at st id (omega (arith, fa)));
+        idle = λ e. (refl, refl);
+        settled = λ k e. absurd (cc);
+        unsettled = λ e. refl;
+        spreading = λ s e. absurd (cc);
+        finished = λ q lt le.
+            let same : at_head x ≡ q = omega arith in
+            let b = slice_get_back w.acks (acked es) 0 (x.join.view.number, r.place) (ap (λ (l : List (ℕ × ℕ)). slice_get l 0) ea) in
+            (r, b.0, x.join.view.number, d.stands, record { node = d.id.node; inc = d.id.inc; req = d.id.req ∙ same }, b.1, omega arith);
+        messages = ms;
+        acks = λ k v p s. one_acked (λ (a b : ℕ). AckOk (moved w n (popped x) es) a b) x.join.view.number r.place (done_ack w n x (popped x) es r j at gr d) k v p (subst (λ (l : List (ℕ × ℕ)). slice_get l k ≡ Some (v, p)) ea s);
+      }
+
+  -- the Ask for the next head
+  pub next_told : (w : World M) (n : ℕ) (x : NodeState M) (es : List Effect) (req : ℕ) (u : Update) (us : List Update) → Invariant w → w.nodes n ≡ Some x → x.core.queue ≢ [] → joining.is_ready x.join ≡ true → req ≡ x.core.passed + 2 → drop 1 x.core.queue ≡ u ∷ us
+      → Pooled (moved w n (popped x) es) (packet (popped x) (locker_at (popped x)) (Ask req u))
+  next_told w n x es req u us j at f rd rq e =
+      let fa : greatest_asked x ≡ x.core.passed + 1 = full_asks x f in
+      let full : (popped x).core.queue ≢ [] = λ z. absurd (let y : ◌≡◌ {A = List Update} (u ∷ us) [] = sym e ∙ z in cc) in
+      let pa : greatest_asked (popped x) ≡ (popped x).core.passed + 1 = full_asks (popped x) full in
+      ask_told w n x (popped x) es req u j at (popped_grown x f) refl refl refl rd (omega (arith, pa)) (λ r c s id i. absurd (not_asked w n x r req j at s id (omega (arith, fa))))
+
+  -- with the lock released
+  pub finish_keeps : (w : World M) (n : ℕ) (x : NodeState M) (r : Entry) → Invariant w → w.nodes n ≡ Some x → Done w n x r → Invariant (absorb n (proceeds x r (updating.finished x.core r.place)) w)
+  finish_keeps w n x r j at d =
+      let h : NodeOk w n x = j.nodes n x at in
+      let next : Option ℕ = if nat_lt 1 (length x.core.queue) then Some (x.core.passed + 2) else None in
+      let es : List Effect = Acked x.join.view.number r.place ∷ Send (packet x (locker_at x) (Release (x.core.passed + 1))) ∷ asks (popped x) next in
+      let here : inc_of x.join.view.members n ≡ x.join.inc = (h.view (h.ready_view d.ready)).1 in
+      let P : Packet → Type 0 = λ p. Pooled (moved w n (popped x) es) p in
+      let ex : Ext w (moved w n (popped x) es) = ext_absorb w n x (popped x) es at (popped_grown x d.full) in
+      let rel : P (packet x (locker_at x) (Release (x.core.passed + 1))) = told w n x (popped x) es (locker_at x) (Release (x.core.passed + 1)) h (h.ready_view d.ready) refl refl (
+        record { started = omega (arith, h.inc, here); passed = λ z e same. self_node w n (popped x) es (λ (t : NodeState M). x.core.passed + 1 ≤ t.core.passed) (omega arith) z e },
+        r,
+        record { at = d.stands.at },
+        record { node = d.id.node; inc = d.id.inc ∙ sym here; req = d.id.req },
+        all_reached w (moved w n (popped x) es) x.join.view.members r.place ex d.members,
+      ) in
+      let ms : (k : ℕ) (p : Packet) → slice_get (sent es) k ≡ Some p → P p =
+      cons_told P (packet x (locker_at x) (Release (x.core.passed + 1))) (sent (asks (popped x) next)) rel
+      (asks_told P (popped x) next (λ req u us some full. next_told w n x es req u us j at d.full d.ready (sym ((if_some (nat_lt 1 (length x.core.queue)) (x.core.passed + 2) req some).1)) full)) in
+      head_keeps w n x (x.core.passed + 1) (drop 1 x.core.queue) None None None None es j at
+      (pop_ok w n x r es j at d (ap (λ (l : List (ℕ × ℕ)). (x.join.view.number, r.place) ∷ l) (asks_acks (popped x) next)) ms)

@@ -1,0 +1,228 @@
+-- The rules for Granted, Applied and a submitted update.
+use Rattle.std.proofs.Common.{◌≡◌, ◌≢◌, ◌⊎◌, inl, inr, ⊎_elim, ℕ, zero, suc, ◌+◌, ◌<◌, ◌≤◌, Bool, true, false, ◌&&◌, List, [], ◌∷◌, ◌++◌, length, Option, Some, None, nat_eq, nat_lt, cond, slice_get, refl, sym, ap, ◌∙◌, subst, arith}
+use Rattle.std.proofs.lemmas.Bool.{cases_lt}
+use Rattle.gum_messages.specs.declared.member.Member.{Member}
+use Rattle.gum_messages.specs.declared.view.View.{View}
+use Rattle.gum_messages.specs.Members.{inc_of, locker_of, spread_of}
+use Rattle.gum_messages.proofs.Branches.{if_cases, option_cases}
+use Rattle.gum_messages.proofs.Placing.{get_within}
+use Rattle.update_records.specs.Entry.{Entry}
+use Rattle.update_records.specs.declared.update.Update.{Update}
+use Rattle.gum_core.specs.declared.spreading.Spreading.{Spreading}
+use Rattle.gum_core.specs.declared.decision.Decision.{Decision}
+use Rattle.gum_core.specs.declared.decision.Decision.TheVariants as decision
+use Rattle.gum_core.specs.Updating.{CoreState, greatest_of}
+use Rattle.gum_core.specs.Updating as updating
+use Rattle.view_reconcile.specs.declared.stage.Stage.{Stage}
+use Rattle.view_reconcile.specs.declared.stage.Stage.TheVariants as stage
+use Rattle.view_reconcile.specs.Joining.{ReconcileState}
+use Rattle.view_reconcile.specs.Joining as joining
+use Rattle.view_reconcile.specs.Chains.{view_in}
+use Rattle.cluster_rules.specs.Machines.{Machine}
+use Rattle.cluster_rules.specs.Packets.{Packet, Granted, Apply, Applied, Release}
+use Rattle.cluster_rules.specs.Nodes.{Effect, NodeState, Out, Send, asks, locker_at, nothing, packet}
+use Rattle.cluster_rules.specs.Updates.{asked_for, may_submit, on_applied, on_granted, proceeds, submit}
+use Rattle.cluster_rules.specs.Worlds.{World, absorb}
+use Rattle.cluster_laws.proofs.Inv.{AckOk, AllReached, Asked, Has, Invariant, MsgOk, NodeOk, Pooled, Reached, WasReady, at_head, greatest_asked}
+use Rattle.cluster_laws.proofs.Stable.{Grown, all_reached, asks_most, grown_refl}
+use Rattle.cluster_laws.proofs.Moves.{ext_absorb, moved, none_acked, one_told, self_node, stay_keeps, stay_sends, told}
+use Rattle.cluster_laws.proofs.Applying.{and_true, eq_true}
+use Rattle.gum_core.proofs.Cases.{applied_cases, granted_cases, receiver_says, spread_cases}
+use Rattle.cluster_laws.proofs.Heads.{SpreadOk, append_some, ask_told, asks_acks, asks_told, asked_head, empty_asks, full_asks, head_keeps, headed, length_some}
+use Rattle.cluster_laws.proofs.Finish.{Done, finish_keeps}
+
+-- each member is the locker or stands in the spreading order
+pub cover_spread : (ms : List Member) (n : ℕ) → 0 < inc_of ms n → (j : ℕ) × (m : Member) × (slice_get ms j ≡ Some m) × (m.node ≡ n)
+cover_spread [] n h = absurd (omega arith)
+cover_spread (m ∷ ms) n h = elim (nat_eq m.node n) as (λ (b : Bool). nat_eq m.node n ≡ b → 0 < cond b m.inc (inc_of ms n) → (j : ℕ) × (k : Member) × (slice_get (m ∷ ms) j ≡ Some k) × (k.node ≡ n)) [
+  | true ↦ λ e g. (zero, m, refl, eq_true m.node n e)
+  | false ↦ λ e g. let r = cover_spread ms n g in (suc r.0, r.1, r.2, r.3)
+] refl h
+
+pub cover : (ms : List Member) (n : ℕ) → 0 < inc_of ms n → (n ≡ locker_of ms) ⊎ ((j : ℕ) × (m : Member) × (slice_get (spread_of ms) j ≡ Some m) × (m.node ≡ n))
+cover [] n h = absurd (omega arith)
+cover (m ∷ ms) n h = elim (nat_eq m.node n) as (λ (b : Bool). nat_eq m.node n ≡ b → 0 < cond b m.inc (inc_of ms n) → (n ≡ m.node) ⊎ ((j : ℕ) × (k : Member) × (slice_get ms j ≡ Some k) × (k.node ≡ n))) [
+  | true ↦ λ e g. inl (sym (eq_true m.node n e))
+  | false ↦ λ e g. inr (cover_spread ms n g)
+] refl h
+
+pub get_none : {A : Type 0} (l : List A) (k : ℕ) → slice_get l k ≡ None → length l ≤ k
+get_none [] k e = omega arith
+get_none (x ∷ l) zero e = cc
+get_none (x ∷ l) (suc k) e = let h : length l ≤ k = get_none l k e in omega arith
+
+pub receiver_none : (c : CoreState) (at : ℕ) → updating.receiver c at ≡ None → length (spread_of c.members) ≤ at
+receiver_none c at e = option_cases (λ (o : Option ℕ). o ≡ None → length (spread_of c.members) ≤ at) (slice_get (spread_of c.members) at) None (λ m. Some m.node) (λ none f. get_none (spread_of c.members) at none) (λ m some f. absurd (cc)) e
+
+pub open_is_ready : (s : ReconcileState) → joining.is_open s ≡ true → joining.is_ready s ≡ true
+open_is_ready s e = go s.stage e
+  where
+    go : (t : Stage) → (elim t [ stage.Open ↦ true | _ ↦ false ]) ≡ true → (elim t [ stage.Ready ↦ true | stage.Open ↦ true | _ ↦ false ]) ≡ true
+    go stage.Waiting e = cc
+    go (stage.Pulling k) e = cc
+    go stage.Taking e = cc
+    go stage.Ready e = cc
+    go stage.Open e = refl
+
+pub asked_some : (b : Bool) (a req : ℕ) → asked_for (cond b (decision.Ask a) decision.Nothing) ≡ Some req → (b ≡ true) × (a ≡ req)
+asked_some true a req e = (refl, cc)
+asked_some false a req e = cc
+
+module _ {M : Machine} where
+  -- everybody has a record that the locker and each member behind it has
+  pub all_have : (w : World M) (ms : List Member) (k : ℕ) → Reached w (locker_of ms) (inc_of ms (locker_of ms)) k → ((j : ℕ) (m : Member) → slice_get (spread_of ms) j ≡ Some m → Reached w m.node (inc_of ms m.node) k) → AllReached w ms k
+  all_have w ms k first others = record {
+    each = λ n i e pos. ⊎_elim
+        (λ (c : n ≡ locker_of ms). let f : Reached w n (inc_of ms n) k = subst (λ (t : ℕ). Reached w t (inc_of ms t) k) (sym c) first in subst (λ (t : ℕ). Reached w n t k) e f)
+        (λ (c : (j : ℕ) × (m : Member) × (slice_get (spread_of ms) j ≡ Some m) × (m.node ≡ n)). let f : Reached w n (inc_of ms n) k = subst (λ (t : ℕ). Reached w t (inc_of ms t) k) c.3 (others c.0 c.1 c.2) in subst (λ (t : ℕ). Reached w n t k) e f)
+        (cover ms n (subst (λ (t : ℕ). 0 < t) (sym e) pos));
+  }
+
+  -- the members of an open node's view have what was acknowledged
+  pub open_reached : (w : World M) (n : ℕ) (x : NodeState M) (a v k : ℕ) → Invariant w → w.nodes n ≡ Some x → joining.is_open x.join ≡ true → joining.is_ready x.join ≡ true → slice_get w.acks a ≡ Some (v, k) → v ≤ x.join.view.number → AllReached w x.join.view.members k
+  open_reached w n x a v k j at op rd e le =
+      let h : NodeOk w n x = j.nodes n x at in
+      let d = h.view (h.ready_view rd) in
+      let k_ok : AckOk w v k = j.acks a v k e in
+      ⊎_elim
+      (λ (b : v < x.join.view.number). record {
+        each = λ m i f pos.
+            let r : WasReady w m (inc_of x.join.view.members m) x.join.view.number = h.all_ready op m (subst (λ (t : ℕ). 0 < t) (sym f) pos) in
+            let low : k ≤ r.count = k_ok.later x.join.view.number r.count r.counted b in
+            record { started = subst (λ (t : ℕ). t ≤ w.starts m) f r.reached.started; done = λ y ay same. omega (arith, low, r.reached.done y ay (same ∙ sym f)) };
+      })
+      (λ (b : x.join.view.number ≤ v).
+      let same : v ≡ x.join.view.number = omega arith in
+      let vw : Some k_ok.view ≡ Some x.join.view = sym k_ok.declared ∙ ap (view_in w.chain) same ∙ d.0 in
+      let vw2 : k_ok.view ≡ x.join.view = cc in
+      subst (λ (u : View). AllReached w u.members k) vw2 k_ok.members)
+      (cases_lt v x.join.view.number)
+
+  -- a record that is being spread can be finished
+  pub spread_done : (w : World M) (n : ℕ) (x : NodeState M) (r : Entry) (p : ℕ) → Invariant w → w.nodes n ≡ Some x → x.core.queue ≢ [] → Has r n x.join.inc (at_head x) → SpreadOk w n x r p → length (spread_of x.core.members) ≤ p → Done w n x r
+  spread_done w n x r p j at f id s le =
+      let h : NodeOk w n x = j.nodes n x at in
+      let le2 : length (spread_of x.join.view.members) ≤ p = subst (λ (ms : List Member). length (spread_of ms) ≤ p) h.core_members le in
+      record {
+        ready = open_is_ready x.join s.0;
+        full = f;
+        stands = record { at = s.1.at };
+        id = id;
+        later = λ u c i b. j.log.bounds u c r i (record { at = s.1.at }) (omega (arith, s.1.view));
+        members = all_have w x.join.view.members r.place s.2 (λ i m e. s.3 i m (omega (arith, get_within (spread_of x.join.view.members) i m e, le2)) e);
+      }
+
+  -- the record goes to the next member, or is finished
+  pub spread_keeps : (w : World M) (n : ℕ) (x : NodeState M) (r : Entry) (p : ℕ) → Invariant w → w.nodes n ≡ Some x → x.core.queue ≢ [] → Has r n x.join.inc (at_head x) → SpreadOk w n x r p → Invariant (absorb n (proceeds x r (updating.spread x.core r.place p)) w)
+  spread_keeps w n x r p j at f id s =
+      let h : NodeOk w n x = j.nodes n x at in
+      spread_cases (λ (t : CoreState × Decision). Invariant (absorb n (proceeds x r t) w)) x.core r.place p
+      (λ none. finish_keeps w n x r j at (spread_done w n x r p j at f id s (receiver_none x.core p none)))
+      (λ to there.
+      let sp : Spreading = record { place = r.place; at = p } in
+      let y : NodeState M = headed x x.core.passed x.core.queue (Some sp) (Some r) x.settled x.outcome in
+      let es : List Effect = Send (packet y to (Apply r)) ∷ [] in
+      head_keeps w n x x.core.passed x.core.queue (Some sp) (Some r) x.settled x.outcome es j at (record {
+        more = omega arith;
+        more_asks = omega arith;
+        still = λ e q z. z;
+        new = λ a wt st i. (wt, refl);
+        new_doubt = λ a wt st i. (wt, refl);
+        idle = λ e. absurd (f e);
+        settled = h.settled;
+        unsettled = h.unsettled;
+        spreading = λ t e. let q : sp ≡ t = cc in subst (λ (t : Spreading). (a : Entry) × (Some r ≡ Some a) × (a.place ≡ t.place) × Has a n x.join.inc (at_head x) × SpreadOk w n x a t.at) q (r, refl, refl, id, s);
+        finished = λ q lt le. absurd (omega arith);
+        messages = one_told (λ (q : Packet). Pooled (moved w n y es) q) (packet y to (Apply r)) (told w n x y es to (Apply r) h (h.ready_view (open_is_ready x.join s.0)) refl refl (record { at = s.1.at; view = s.1.view }));
+        acks = none_acked (λ (a b : ℕ). AckOk (moved w n y es) a b);
+      }))
+
+  pub on_granted_keeps : (w : World M) (n : ℕ) (x : NodeState M) (from : ℕ) (r : Entry) → Invariant w → w.nodes n ≡ Some x → x.join.view.number ≢ 0 → MsgOk w x.join.view from n (Granted r) → Invariant (absorb n (on_granted x r) w)
+  on_granted_keeps w n x from r j at nz ok =
+      let h : NodeOk w n x = j.nodes n x at in
+      let here : inc_of x.join.view.members n ≡ x.join.inc = (h.view nz).1 in
+      granted_cases (λ (t : CoreState × Decision). Invariant (absorb n (proceeds x r t) w)) x.core r.id.req r.place
+      (stay_keeps w n x j at)
+      (λ op full rq none. spread_keeps w n x r 0 j at (length_some x.core.queue full) (record { node = ok.1; inc = ok.2 ∙ here; req = rq }) (sym h.core_open ∙ op, ok.0, ok.3, λ i m b e. absurd (omega arith)))
+      (λ op pos le.
+      let jo : joining.is_open x.join ≡ true = sym h.core_open ∙ op in
+      let rd : joining.is_ready x.join ≡ true = open_is_ready x.join jo in
+      let t = h.finished r.id.req pos le in
+      let es : List Effect = Send (packet x (locker_at x) (Release r.id.req)) ∷ [] in
+      stay_sends w n x (locker_at x) (Release r.id.req) j at (told w n x x es (locker_at x) (Release r.id.req) h nz refl refl (
+        record { started = omega (arith, h.inc, here); passed = λ z e same. self_node w n x es (λ (q : NodeState M). r.id.req ≤ q.core.passed) le z e },
+        t.0,
+        record { at = t.3.at },
+        record { node = t.4.node; inc = t.4.inc ∙ sym here; req = t.4.req },
+        all_reached w (moved w n x es) x.join.view.members t.0.place (ext_absorb w n x x es at (grown_refl x)) (open_reached w n x t.1 t.2 t.0.place j at jo rd t.5 t.6),
+      )))
+
+  pub on_applied_keeps : (w : World M) (n : ℕ) (x : NodeState M) (from place : ℕ) → Invariant w → w.nodes n ≡ Some x → MsgOk w x.join.view from n (Applied place) → Invariant (absorb n (on_applied x from place) w)
+  on_applied_keeps w n x from place j at ok =
+      let h : NodeOk w n x = j.nodes n x at in
+      option_cases (λ (o : Out M). Invariant (absorb n o w)) x.spreads (nothing x) (λ e. proceeds x e (updating.applied x.core from place))
+      (λ none. stay_keeps w n x j at)
+      (λ e has. applied_cases (λ (t : CoreState × Decision). Invariant (absorb n (proceeds x e t) w)) x.core from place
+      (stay_keeps w n x j at)
+      (λ s sp pl to.
+      let t = h.spreading s sp in
+      let q : Some t.0 ≡ Some e = sym t.1 ∙ has in
+      let same : t.0 ≡ e = cc in
+      let pe : place ≡ e.place = sym pl ∙ sym t.2 ∙ ap (λ (a : Entry). a.place) same in
+      let full : x.core.queue ≢ [] = λ z. absurd (let u : x.core.spreading ≡ None = (h.idle z).0 in let v : ◌≡◌ {A = Option Spreading} (Some s) None = sym sp ∙ u in cc) in
+      let m = receiver_says x.core s.at from to in
+      let there : slice_get (spread_of x.join.view.members) s.at ≡ Some m.0 = subst (λ (ms : List Member). slice_get (spread_of ms) s.at ≡ Some m.0) h.core_members m.1 in
+      let got : Reached w m.0.node (inc_of x.join.view.members m.0.node) place = subst (λ (k : ℕ). Reached w k (inc_of x.join.view.members k) place) (sym m.2) ok in
+      let ok0 : SpreadOk w n x t.0 (s.at + 1) = (
+        t.3,
+        t.4,
+        t.6,
+        λ i k b f. ⊎_elim
+            (λ (c : i < s.at). t.7 i k c f)
+            (λ (c : s.at ≤ i).
+            let z : i ≡ s.at = omega arith in
+            let y : Some k ≡ Some m.0 = sym f ∙ ap (slice_get (spread_of x.join.view.members)) z ∙ there in
+            let g : m.0 ≡ k = cc in
+            let p0 : place ≡ t.0.place = sym pl ∙ sym t.2 in
+            subst (λ (u : Member). Reached w u.node (inc_of x.join.view.members u.node) t.0.place) g (subst (λ (u : ℕ). Reached w m.0.node (inc_of x.join.view.members m.0.node) u) p0 got))
+            (cases_lt i s.at),
+      ) in
+      let ok1 : Has e n x.join.inc (at_head x) × SpreadOk w n x e (s.at + 1) = subst (λ (a : Entry). Has a n x.join.inc (at_head x) × SpreadOk w n x a (s.at + 1)) same (t.5, ok0) in
+      subst (λ (k : ℕ). Invariant (absorb n (proceeds x e (updating.spread x.core k (s.at + 1))) w)) (sym pe) (spread_keeps w n x e (s.at + 1) j at full ok1.0 ok1.1)))
+
+  -- an update is submitted
+  pub submit_keeps : (w : World M) (n : ℕ) (x : NodeState M) (u : Update) → Invariant w → w.nodes n ≡ Some x → Invariant (absorb n (submit x u) w)
+  submit_keeps w n x u j at =
+      let h : NodeOk w n x = j.nodes n x at in
+      if_cases (λ (o : Out M). Invariant (absorb n o w)) (may_submit x) _ _
+      (λ g.
+      let op : x.core.is_open ≡ true = (and_true x.core.is_open (nat_lt (x.core.passed + length x.core.queue) updating.last_request) g).0 in
+      let rd : joining.is_ready x.join ≡ true = open_is_ready x.join (sym h.core_open ∙ op) in
+      let y : NodeState M = headed x x.core.passed (x.core.queue ++ u ∷ []) x.core.spreading x.spreads x.settled x.outcome in
+      let full : y.core.queue ≢ [] = append_some x.core.queue u in
+      let fy : greatest_asked y ≡ x.core.passed + 1 = full_asks y full in
+      let es : List Effect = asks y (asked_for (updating.first_ask x.core)) in
+      let gr : Grown x y = record { inc = refl; done = omega arith; passed = omega arith; asks = omega (arith, fy, asks_most x); view = omega arith; waits = λ e q z. (q, z.1) } in
+      let fresh_ : (r : Entry) → Asked w r.id.node r.id.inc r.id.req → Has r n x.join.inc (at_head y) → x.core.queue ≢ [] = λ r a id z. absurd (omega (arith, asked_head w n x r (at_head y) at a id, empty_asks x z)) in
+      head_keeps w n x x.core.passed (x.core.queue ++ u ∷ []) x.core.spreading x.spreads x.settled x.outcome es j at (record {
+        more = omega arith;
+        more_asks = gr.asks;
+        still = gr.waits;
+        new = λ r wt s id. ((fresh_ r (j.log.asked r s).1 id, wt.1), refl);
+        new_doubt = λ r wt s id. ((fresh_ r (j.log.doubt r s).2 id, wt.1), refl);
+        idle = λ e. absurd (full e);
+        settled = h.settled;
+        unsettled = h.unsettled;
+        spreading = λ s e. let t = h.spreading s e in (t.0, t.1, t.2, t.5, (t.3, t.4, t.6, t.7));
+        finished = λ q lt le. absurd (omega arith);
+        messages = asks_told (λ (p : Packet). Pooled (moved w n y es) p) y (asked_for (updating.first_ask x.core)) (λ req v vs some full_.
+            let b = asked_some (x.core.is_open && nat_eq (length x.core.queue) 0) (x.core.passed + 1) req some in
+            let none : length x.core.queue ≡ 0 = eq_true (length x.core.queue) 0 (and_true x.core.is_open (nat_eq (length x.core.queue) 0) b.0).1 in
+            ask_told w n x y es req v j at gr refl refl refl rd (omega (arith, fy, b.1)) (λ r c s id i. absurd (fresh_ r (j.log.asked r s).1 (record { node = id.node; inc = id.inc; req = id.req ∙ sym b.1 }) (no_length x.core.queue none))));
+        acks = λ k v p s. none_acked (λ (a b : ℕ). AckOk (moved w n y es) a b) k v p (subst (λ (l : List (ℕ × ℕ)). slice_get l k ≡ Some (v, p)) (asks_acks y (asked_for (updating.first_ask x.core))) s);
+      }))
+      (λ g. stay_keeps w n x j at)
+    where
+      no_length : (l : List Update) → length l ≡ 0 → l ≡ []
+      no_length [] e = refl
+      no_length (a ∷ as_) e = absurd (omega arith)

@@ -1,0 +1,228 @@
+-- The invariants of the world.
+use Rattle.std.proofs.Common.{◌≡◌, ◌≢◌, ℕ, ◌+◌, ◌<◌, ◌≤◌, true, false, List, [], ◌∷◌, length, take, drop, Option, Some, None, slice_get}
+use Rattle.gum_messages.specs.declared.member.Member.{Member}
+use Rattle.gum_messages.specs.declared.view.View.{View}
+use Rattle.gum_messages.specs.Members.{inc_of, locker_of, spread_of}
+use Rattle.gum_messages.specs.Places.{at_place}
+use Rattle.update_records.specs.Entry.{Entry}
+use Rattle.gum_core.specs.declared.lock.Lock.{Lock}
+use Rattle.gum_core.specs.declared.spreading.Spreading.{Spreading}
+use Rattle.gum_core.specs.Updating.{greatest_of}
+use Rattle.view_reconcile.specs.declared.stage.Stage.TheVariants as stage
+use Rattle.view_reconcile.specs.Joining.{ReconcileState}
+use Rattle.view_reconcile.specs.Joining as joining
+use Rattle.view_reconcile.specs.Chains.{IsChain, view_in}
+use Rattle.cluster_rules.specs.Machines.{Machine, registry_at}
+use Rattle.cluster_rules.specs.Packets.{Body, Packet, Ask, Granted, Apply, Applied, Release, Offer, Need, Piece, Ready, OpenView}
+use Rattle.cluster_rules.specs.Nodes.{NodeState, Offering, Replica, done_of, has_state}
+use Rattle.cluster_rules.specs.Worlds.{Log, World}
+
+module _ {M : Machine} where
+  -- WHAT ONCE TRUE STAYS TRUE, of one incarnation of a node, where it runs
+
+  -- it has applied the first k records
+  pub record Reached (w : World M) (n i k : ℕ) : Type 0 where
+    pub started : i ≤ w.starts n
+    pub done : (x : NodeState M) → w.nodes n ≡ Some x → x.join.inc ≡ i → k ≤ done_of x
+
+  -- each member of a list has
+  pub record AllReached (w : World M) (ms : List Member) (k : ℕ) : Type 0 where
+    pub each : (n i : ℕ) → inc_of ms n ≡ i → 0 < i → Reached w n i k
+
+  -- it has finished this request
+  pub record Finished (w : World M) (n i req : ℕ) : Type 0 where
+    pub started : i ≤ w.starts n
+    pub passed : (x : NodeState M) → w.nodes n ≡ Some x → x.join.inc ≡ i → req ≤ x.core.passed
+
+  -- it has asked for this request
+  abbrev pub greatest_asked : NodeState M → ℕ
+  greatest_asked x = elim x.core.queue [ [] ↦ x.core.passed | u ∷ us ↦ x.core.passed + 1 ]
+
+  pub record Asked (w : World M) (n i req : ℕ) : Type 0 where
+    pub started : i ≤ w.starts n
+    pub asks : (x : NodeState M) → w.nodes n ≡ Some x → x.join.inc ≡ i → req ≤ greatest_asked x
+
+  -- it has come to this view
+  pub record Entered (w : World M) (n i v : ℕ) : Type 0 where
+    pub started : i ≤ w.starts n
+    pub view : (x : NodeState M) → w.nodes n ≡ Some x → x.join.inc ≡ i → v ≤ x.join.view.number
+
+  -- its head is waiting for its record
+  abbrev pub waits : NodeState M → Type 0
+  waits x = (x.core.queue ≢ []) × (x.settled ≡ None)
+
+  abbrev pub at_head : NodeState M → ℕ
+  at_head x = x.core.passed + 1
+
+-- a record of the order at its place
+pub record Stands (l : Log) (r : Entry) : Type 0 where
+  pub at : at_place l.order r.place ≡ Some r
+
+-- one that was logged in a view
+pub record LoggedIn (l : Log) (r : Entry) (v : ℕ) : Type 0 where
+  pub at : at_place l.order r.place ≡ Some r
+  pub view : l.view_at r.place ≡ v
+
+-- it has the id of a request
+pub record Has (r : Entry) (n i q : ℕ) : Type 0 where
+  pub node : r.id.node ≡ n
+  pub inc : r.id.inc ≡ i
+  pub req : r.id.req ≡ q
+
+-- no record of the order up to place k has this id
+pub record NotBefore (l : Log) (n i req k : ℕ) : Type 0 where
+  pub none : (r : Entry) → at_place l.order r.place ≡ Some r → Has r n i req → k < r.place
+
+module _ {M : Machine} where
+  -- no waiting head of it has its record among the first c
+  pub record Clear (w : World M) (n i c : ℕ) : Type 0 where
+    pub started : i ≤ w.starts n
+    pub within : c ≤ length w.log.order
+    pub clear : (x : NodeState M) (r : Entry) → w.nodes n ≡ Some x → x.join.inc ≡ i → waits x → Stands w.log r → Has r n i (at_head x) → c < r.place
+
+  -- it was ready in the view of this number
+  pub record WasReady (w : World M) (n i v : ℕ) : Type 0 where
+    pub count : ℕ
+    pub counted : w.log.count v ≡ Some count
+    pub reached : Reached w n i count
+    pub clear : Clear w n i count
+
+  -- the bytes that a locker of a view sends
+  abbrev pub state_bytes : World M → ℕ → List ℕ
+  state_bytes w c = M.encode (registry_at M w.log.cap w.log.order c)
+
+  -- MESSAGES
+  abbrev pub MsgOk : World M → View → ℕ → ℕ → Body → Type 0
+  MsgOk w v from to (Ask req u) =
+      (c : ℕ) × (w.log.count v.number ≡ Some c) × NotBefore w.log from (inc_of v.members from) req c × Asked w from (inc_of v.members from) req
+  MsgOk w v from to (Granted r) = LoggedIn w.log r v.number × (r.id.node ≡ to) × (r.id.inc ≡ inc_of v.members to) × Reached w (locker_of v.members) (inc_of v.members (locker_of v.members)) r.place
+  MsgOk w v from to (Apply r) = LoggedIn w.log r v.number
+  MsgOk w v from to (Applied k) = Reached w from (inc_of v.members from) k
+  MsgOk w v from to (Release req) =
+      Finished w from (inc_of v.members from) req × (r : Entry) × Stands w.log r × Has r from (inc_of v.members from) req × AllReached w v.members r.place
+  MsgOk w v from to (Offer c cap last) = (w.log.count v.number ≡ Some c) × (cap ≡ w.log.cap) × (at_place w.log.order c ≡ last)
+  MsgOk w v from to (Need offset) = Unit {0}
+  MsgOk w v from to (Piece total offset bytes) =
+      (c : ℕ) × (w.log.count v.number ≡ Some c) × (total ≡ length (state_bytes w c)) × (bytes ≡ take (length bytes) (drop offset (state_bytes w c)))
+  MsgOk w v from to Ready = WasReady w from (inc_of v.members from) v.number
+  MsgOk w v from to OpenView = (n : ℕ) → 0 < inc_of v.members n → WasReady w n (inc_of v.members n) v.number
+
+  pub record Pooled (w : World M) (p : Packet) : Type 0 where
+    pub view : View
+    pub declared : view_in w.chain p.view ≡ Some view
+    pub number : view.number ≡ p.view
+    pub ok : MsgOk w view p.from p.to p.body
+
+  -- ONE NODE
+  pub record NodeOk (w : World M) (n : ℕ) (x : NodeState M) : Type 0 where
+    pub node : x.join.node ≡ n
+    pub inc : x.join.inc ≡ w.starts n
+    pub positive : 0 < x.join.inc
+    -- what the core keeps of the view
+    pub core_node : x.core.node ≡ n
+    pub core_members : x.core.members ≡ x.join.view.members
+    pub core_open : x.core.is_open ≡ joining.is_open x.join
+    pub entries : length x.core.greatest ≡ length x.core.members
+    -- declared views
+    pub view : x.join.view.number ≢ 0 → (view_in w.chain x.join.view.number ≡ Some x.join.view) × (inc_of x.join.view.members n ≡ x.join.inc)
+    pub peopled : (m : ℕ) → 0 < inc_of x.join.view.members m → x.join.view.number ≢ 0
+    pub ready_view : joining.is_ready x.join ≡ true → x.join.view.number ≢ 0
+    -- the registry is a prefix's
+    pub within : done_of x ≤ length w.log.order
+    pub registry : (r : Replica M) → x.replica ≡ Some r → r.registry ≡ registry_at M w.log.cap w.log.order r.done
+    pub last : (r : Replica M) → x.replica ≡ Some r → x.last ≡ at_place w.log.order r.done
+    -- counts of views
+    pub ready_state : joining.is_ready x.join ≡ true → (has_state x ≡ true) × (c : ℕ) × (w.log.count x.join.view.number ≡ Some c) × (c ≤ done_of x)
+    pub below : (v c : ℕ) → w.log.count v ≡ Some c → x.join.view.number < v → done_of x ≤ c
+    pub unready : (c : ℕ) → w.log.count x.join.view.number ≡ Some c → joining.is_ready x.join ≡ false → done_of x ≤ c
+    -- what it follows while it pulls
+    pub pull : (o : Offering) → x.offer ≡ Some o → (joining.is_ready x.join ≡ false) × (w.log.count x.join.view.number ≡ Some o.count) × (o.cap ≡ w.log.cap) × (o.last ≡ at_place w.log.order o.count) × (joining.locks x.join ≡ false)
+    pub pulled : (got : ℕ) → x.join.stage ≡ stage.Pulling got → (o : Offering) × (x.offer ≡ Some o) × (x.bytes ≡ take got (state_bytes w o.count))
+    pub closed : joining.is_ready x.join ≡ true → joining.locks x.join ≡ true → joining.is_open x.join ≡ false → w.log.count x.join.view.number ≡ Some (done_of x)
+    -- the lock
+    pub lock : (l : Lock) → x.core.lock ≡ Some l → (joining.is_open x.join ≡ true) × (joining.locks x.join ≡ true) × (r : Entry) × (at_place w.log.order (done_of x) ≡ Some r) × LoggedIn w.log r x.join.view.number × (r.id.node ≡ l.node) × (r.id.inc ≡ inc_of x.join.view.members l.node) × (r.id.req ≡ l.req) × (r.place ≡ l.place)
+    -- the members that a locker counts as ready, and those of an open view
+    pub marked : (m : ℕ) → joining.is_marked x.join m ≡ true → 0 < inc_of x.join.view.members m → WasReady w m (inc_of x.join.view.members m) x.join.view.number
+    pub all_ready : joining.is_open x.join ≡ true → (m : ℕ) → 0 < inc_of x.join.view.members m → WasReady w m (inc_of x.join.view.members m) x.join.view.number
+    -- the head
+    pub idle : x.core.queue ≡ [] → (x.core.spreading ≡ None) × (x.settled ≡ None)
+    pub settled : (k : ℕ) → x.settled ≡ Some k → (r : Entry) × Stands w.log r × (r.place ≡ k) × Has r n x.join.inc (at_head x) × (k ≤ done_of x) × (joining.is_ready x.join ≡ true → (c : ℕ) → w.log.count x.join.view.number ≡ Some c → k ≤ c)
+    -- the head of an open node isn't settled
+    pub unsettled : joining.is_open x.join ≡ true → x.settled ≡ None
+    pub spreading : (s : Spreading) → x.core.spreading ≡ Some s → (r : Entry) × (x.spreads ≡ Some r) × (r.place ≡ s.place) × (joining.is_open x.join ≡ true) × LoggedIn w.log r x.join.view.number × Has r n x.join.inc (at_head x) × Reached w (locker_of x.join.view.members) (inc_of x.join.view.members (locker_of x.join.view.members)) r.place × ((j : ℕ) (m : Member) → j < s.at → slice_get (spread_of x.join.view.members) j ≡ Some m → Reached w m.node (inc_of x.join.view.members m.node) r.place)
+    -- heads and records: no record of a view with this incarnation stands behind a waiting head's
+    pub waiting : (r s : Entry) (u : View) → waits x → Stands w.log r → Has r n x.join.inc (at_head x) → Stands w.log s → r.place < s.place → view_in w.chain (w.log.view_at s.place) ≡ Some u → inc_of u.members n ≢ x.join.inc
+    pub waiting_doubt : (r s : Entry) (u : View) → waits x → Stands w.log r → Has r n x.join.inc (at_head x) → w.log.doubtful ≡ Some s → view_in w.chain w.log.doubtful_view ≡ Some u → inc_of u.members n ≢ x.join.inc
+    pub behind : (r : Entry) (c : ℕ) → waits x → Stands w.log r → Has r n x.join.inc (at_head x) → joining.is_ready x.join ≡ true → w.log.count x.join.view.number ≡ Some c → c < r.place
+    -- acks and finished requests: each request that it finished was acknowledged
+    pub finished : (q : ℕ) → 1 ≤ q → q ≤ x.core.passed → (r : Entry) × (a v : ℕ) × Stands w.log r × Has r n x.join.inc q × (slice_get w.acks a ≡ Some (v, r.place)) × (v ≤ x.join.view.number)
+
+  -- A LOCKER THAT OWNS THE LOG
+  pub record Owner (w : World M) (n : ℕ) (x : NodeState M) : Type 0 where
+    pub runs : w.nodes n ≡ Some x
+    pub ready : joining.is_ready x.join ≡ true
+    pub locker : joining.locks x.join ≡ true
+    pub held : x.join.view.number ≡ w.log.held
+
+  -- what the owner knows of a member of its view
+  pub record MemberOk (l : Log) (lock : Option Lock) (m : ℕ) (y : NodeState M) : Type 0 where
+    pub near : length l.order ≤ done_of y + 1
+    pub free : lock ≡ None → length l.order ≤ done_of y
+    pub heads : (r : Entry) → waits y → Stands l r → Has r m y.join.inc (at_head y) → (k : Lock) × (lock ≡ Some k) × (k.node ≡ m) × (k.req ≡ at_head y)
+
+  pub record OwnerOk (w : World M) (n : ℕ) (x : NodeState M) : Type 0 where
+    -- disk of the owner
+    pub sure : w.log.doubtful ≡ None
+    pub all_done : done_of x ≡ length w.log.order
+    -- counts of views
+    pub closed : joining.is_open x.join ≡ false → (x.core.lock ≡ None) × (w.log.count x.join.view.number ≡ Some (length w.log.order))
+    -- greatest request
+    pub greatest : (r : Entry) (c : ℕ) → w.log.count x.join.view.number ≡ Some c → Stands w.log r → c < r.place → 0 < inc_of x.core.members r.id.node → r.id.req ≤ greatest_of x.core r.id.node
+    -- lock and members
+    pub members : joining.is_open x.join ≡ true → (m : ℕ) (y : NodeState M) → w.nodes m ≡ Some y → inc_of x.join.view.members m ≡ y.join.inc → MemberOk w.log x.core.lock m y
+
+  -- THE LOG'S HISTORY
+  pub record LogOk (w : World M) : Type 0 where
+    pub places : (k : ℕ) (r : Entry) → at_place w.log.order k ≡ Some r → r.place ≡ k
+    -- ids of taken calls
+    pub ids : (r s : Entry) → Stands w.log r → Stands w.log s → r.id.node ≡ s.id.node → r.id.inc ≡ s.id.inc → r.id.req ≡ s.id.req → r.place ≡ s.place
+    pub asked : (r : Entry) → Stands w.log r → (1 ≤ r.id.req) × Asked w r.id.node r.id.inc r.id.req
+    pub logged : (r : Entry) → Stands w.log r → (u : View) × (view_in w.chain (w.log.view_at r.place) ≡ Some u) × (r.id.inc ≡ inc_of u.members r.id.node) × (0 < r.id.inc)
+    pub doubt : (r : Entry) → w.log.doubtful ≡ Some r → (r.place ≡ length w.log.order + 1) × (1 ≤ r.id.req) × Asked w r.id.node r.id.inc r.id.req × NotBefore w.log r.id.node r.id.inc r.id.req (length w.log.order)
+    pub doubt_view : (r : Entry) → w.log.doubtful ≡ Some r → (u : View) × (view_in w.chain w.log.doubtful_view ≡ Some u) × (r.id.inc ≡ inc_of u.members r.id.node) × (0 < r.id.inc)
+    -- counts of views
+    pub counts : (v c : ℕ) → w.log.count v ≡ Some c → (c ≤ length w.log.order) × (v ≤ w.log.held) × (u : View) × (view_in w.chain v ≡ Some u) × Entered w (locker_of u.members) (inc_of u.members (locker_of u.members)) v
+    -- each record was logged in a view whose log had been recovered
+    pub recovered : (r : Entry) → Stands w.log r → (c : ℕ) × (w.log.count (w.log.view_at r.place) ≡ Some c)
+    pub doubt_recovered : (r : Entry) → w.log.doubtful ≡ Some r → (c : ℕ) × (w.log.count w.log.doubtful_view ≡ Some c)
+    pub rising : (v u c d : ℕ) → w.log.count v ≡ Some c → w.log.count u ≡ Some d → v ≤ u → c ≤ d
+    -- a record among the first count(v) was logged in a view below v, and one behind them in v or one above
+    pub early : (v c : ℕ) (r : Entry) → w.log.count v ≡ Some c → Stands w.log r → r.place ≤ c → w.log.view_at r.place < v
+    pub ordered : (r s : Entry) → Stands w.log r → Stands w.log s → r.place ≤ s.place → w.log.view_at r.place ≤ w.log.view_at s.place
+    pub by_held : (r : Entry) → Stands w.log r → w.log.view_at r.place ≤ w.log.held
+    pub doubt_held : (r : Entry) → w.log.doubtful ≡ Some r → w.log.doubtful_view ≤ w.log.held
+    pub doubt_last : (r s : Entry) → w.log.doubtful ≡ Some r → Stands w.log s → w.log.view_at s.place ≤ w.log.doubtful_view
+    pub doubt_low : (r : Entry) (u c : ℕ) → w.log.doubtful ≡ Some r → w.log.count u ≡ Some c → u ≤ w.log.doubtful_view
+    pub bounds : (v c : ℕ) (r : Entry) → w.log.count v ≡ Some c → Stands w.log r → w.log.view_at r.place < v → r.place ≤ c
+    pub held : w.log.held ≢ 0 → (u : View) × (view_in w.chain w.log.held ≡ Some u) × Entered w (locker_of u.members) (inc_of u.members (locker_of u.members)) w.log.held
+
+  -- ACKNOWLEDGEMENTS
+  pub record AckOk (w : World M) (v k : ℕ) : Type 0 where
+    pub view : View
+    pub declared : view_in w.chain v ≡ Some view
+    pub place : k ≤ length w.log.order
+    pub later : (u c : ℕ) → w.log.count u ≡ Some c → v < u → k ≤ c
+    pub members : AllReached w view.members k
+
+  pub record ChainOk (w : World M) : Type 0 where
+    pub chain : IsChain w.chain
+    pub started : (v n : ℕ) (u : View) → view_in w.chain v ≡ Some u → inc_of u.members n ≤ w.starts n
+    pub locker : (v : ℕ) (u : View) → view_in w.chain v ≡ Some u → 0 < inc_of u.members (locker_of u.members)
+
+  pub record Invariant (w : World M) : Type 0 where
+    pub chain : ChainOk w
+    pub log : LogOk w
+    pub nodes : (n : ℕ) (x : NodeState M) → w.nodes n ≡ Some x → NodeOk w n x
+    pub owner : (n : ℕ) (x : NodeState M) → Owner w n x → OwnerOk w n x
+    pub pool : (k : ℕ) (p : Packet) → slice_get w.pool k ≡ Some p → Pooled w p
+    pub acks : (a v k : ℕ) → slice_get w.acks a ≡ Some (v, k) → AckOk w v k

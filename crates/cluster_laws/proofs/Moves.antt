@@ -1,0 +1,260 @@
+-- A world in which one node has moved and messages were sent, its log as before.
+use Rattle.std.proofs.Common.{◌≡◌, ◌≢◌, ◌⊎◌, inl, inr, ⊎_elim, ℕ, zero, suc, ◌<◌, ◌≤◌, true, List, [], ◌∷◌, ◌++◌, length, Option, Some, slice_get, unwrap_or, refl, sym, ap, ◌∙◌, subst, arith}
+use Rattle.gum_messages.specs.declared.member.Member.{Member}
+use Rattle.gum_messages.specs.declared.view.View.{View}
+use Rattle.gum_messages.specs.Members.{inc_of, is_locker, locker_of, index_of}
+use Rattle.gum_core.specs.declared.lock.Lock.{Lock}
+use Rattle.gum_core.specs.Updating.{greatest_of}
+use Rattle.view_reconcile.specs.Joining.{ReconcileState}
+use Rattle.view_reconcile.specs.Joining as joining
+use Rattle.view_reconcile.specs.Chains.{view_in}
+use Rattle.cluster_rules.specs.Machines.{Machine}
+use Rattle.cluster_rules.specs.Packets.{Body, Packet}
+use Rattle.cluster_rules.specs.Nodes.{Effect, NodeState, Out, Send, becomes, done_of, nothing, packet, tells}
+use Rattle.cluster_rules.specs.Worlds.{World, absorb, acked, put, sent}
+use Rattle.cluster_laws.proofs.Inv.{AckOk, Invariant, LogOk, MemberOk, MsgOk, NodeOk, Owner, OwnerOk, Pooled, Reached}
+use Rattle.cluster_laws.proofs.Stable.{AskedOnly, Ext, Grown, all_reached, asked_, entered_, grown_refl, longer_refl, pooled, reached, was_ready}
+
+pub put_cases : {A : Type 0} (f : ℕ → Option A) (n : ℕ) (v : Option A) (m : ℕ) (z : A) → put f n v m ≡ Some z → ((m ≡ n) × (v ≡ Some z)) ⊎ ((m ≢ n) × (f m ≡ Some z))
+put_cases f n v m z e = grind arith
+
+pub slice_get_append : {A : Type 0} (xs ys : List A) (k : ℕ) (z : A) → slice_get (xs ++ ys) k ≡ Some z → (slice_get xs k ≡ Some z) ⊎ ((j : ℕ) × (slice_get ys j ≡ Some z))
+slice_get_append [] ys k z e = inr (k, e)
+slice_get_append (x ∷ xs) ys zero z e = inl e
+slice_get_append (x ∷ xs) ys (suc k) z e = slice_get_append xs ys k z e
+
+pub slice_get_front : {A : Type 0} (xs ys : List A) (k : ℕ) (p : A) → slice_get xs k ≡ Some p → slice_get (xs ++ ys) k ≡ Some p
+slice_get_front [] ys k p e = absurd (cc)
+slice_get_front (x ∷ xs) ys zero p e = e
+slice_get_front (x ∷ xs) ys (suc k) p e = slice_get_front xs ys k p e
+
+pub slice_get_back : {A : Type 0} (xs ys : List A) (k : ℕ) (p : A) → slice_get ys k ≡ Some p → (j : ℕ) × (slice_get (xs ++ ys) j ≡ Some p)
+slice_get_back [] ys k p e = (k, e)
+slice_get_back (x ∷ xs) ys k p e = let r : (j : ℕ) × (slice_get (xs ++ ys) j ≡ Some p) = slice_get_back xs ys k p e in (suc r.0, r.1)
+
+-- what is told, one by one
+pub one_told : (P : Packet → Type 0) (p : Packet) → P p → (k : ℕ) (m : Packet) → slice_get (p ∷ []) k ≡ Some m → P m
+one_told P p h zero m e = let g : p ≡ m = cc in subst P g h
+one_told P p h (suc k) m e = absurd (cc)
+
+pub two_told : (P : Packet → Type 0) (p q : Packet) → P p → P q → (k : ℕ) (m : Packet) → slice_get (p ∷ q ∷ []) k ≡ Some m → P m
+two_told P p q h i zero m e = let g : p ≡ m = cc in subst P g h
+two_told P p q h i (suc k) m e = one_told P q i k m e
+
+pub none_told : (P : Packet → Type 0) (k : ℕ) (m : Packet) → slice_get (sent []) k ≡ Some m → P m
+none_told P k m e = absurd (cc)
+
+pub none_acked : (P : ℕ → ℕ → Type 0) (k v p : ℕ) → slice_get (acked []) k ≡ Some (v, p) → P v p
+none_acked P k v p e = absurd (cc)
+
+pub one_acked : (P : ℕ → ℕ → Type 0) (a b : ℕ) → P a b → (k v p : ℕ) → slice_get {X = ℕ × ℕ} ((a, b) ∷ []) k ≡ Some (v, p) → P v p
+one_acked P a b h zero v p e = let g : ◌≡◌ {A = ℕ × ℕ} (a, b) (v, p) = cc in subst (λ (t : ℕ × ℕ). P t.0 t.1) g h
+one_acked P a b h (suc k) v p e = absurd (cc)
+
+module _ {M : Machine} where
+  -- the world in which one node became y and told these
+  abbrev pub moved : World M → ℕ → NodeState M → List Effect → World M
+  moved w n y es = absorb n (becomes y es) w
+
+  pub at_self : (P : ℕ → NodeState M → Type 0) (a n : ℕ) (y b : NodeState M) → a ≡ n → Some y ≡ Some b → P n y → P a b
+  at_self P a n y b e f p = let g : y ≡ b = cc in subst (λ (t : NodeState M). P a t) g (subst (λ (t : ℕ). P t y) (sym e) p)
+
+  pub ext_absorb : (w : World M) (n : ℕ) (x y : NodeState M) (es : List Effect) → w.nodes n ≡ Some x → Grown x y → Ext w (moved w n y es)
+  ext_absorb w n x y es at g = record {
+    log = longer_refl w.log;
+    chain = λ v u e. e;
+    starts = λ m. omega arith;
+    nodes = λ m z e s. ⊎_elim
+        (λ (c : (m ≡ n) × (Some y ≡ Some z)). (x, ap w.nodes c.0 ∙ at, let q : y ≡ z = cc in subst (λ (t : NodeState M). Grown x t) q g))
+        (λ (c : (m ≢ n) × (w.nodes m ≡ Some z)). (z, c.1, grown_refl z))
+        (put_cases w.nodes n (Some y) m z e);
+  }
+
+  -- what holds of a node stays, where its world grows and has the same log
+  pub node_stays : (w : World M) (n : ℕ) (o : Out M) (m : ℕ) (y : NodeState M) → Ext w (absorb n o w) → AskedOnly w → NodeOk w m y → NodeOk (absorb n o w) m y
+  node_stays w n o m y e a h = record {
+    node = h.node;
+    inc = h.inc;
+    positive = h.positive;
+    core_node = h.core_node;
+    core_members = h.core_members;
+    core_open = h.core_open;
+    entries = h.entries;
+    view = h.view;
+    peopled = h.peopled;
+    ready_view = h.ready_view;
+    within = h.within;
+    registry = h.registry;
+    last = h.last;
+    ready_state = h.ready_state;
+    below = h.below;
+    unready = h.unready;
+    pull = h.pull;
+    pulled = h.pulled;
+    closed = h.closed;
+    lock = h.lock;
+    idle = h.idle;
+    settled = h.settled;
+    unsettled = h.unsettled;
+    waiting = h.waiting;
+    waiting_doubt = h.waiting_doubt;
+    behind = h.behind;
+    marked = λ b c p. was_ready w (absorb n o w) b (inc_of y.join.view.members b) y.join.view.number e a (h.marked b c p);
+    all_ready = λ c b p. was_ready w (absorb n o w) b (inc_of y.join.view.members b) y.join.view.number e a (h.all_ready c b p);
+    spreading = λ s c.
+        let t = h.spreading s c in
+        (t.0, t.1, t.2, t.3, t.4, t.5, reached w (absorb n o w) (locker_of y.join.view.members) (inc_of y.join.view.members (locker_of y.join.view.members)) t.0.place e t.6, λ j b l f. reached w (absorb n o w) b.node (inc_of y.join.view.members b.node) t.0.place e (t.7 j b l f));
+    finished = λ q p b. let f = h.finished q p b in
+        (f.0, f.1, f.2, f.3, f.4, slice_get_front w.acks (acked o.effects) f.1 (f.2, f.0.place) f.5, f.6);
+  }
+
+  pub log_stays : (w : World M) (n : ℕ) (o : Out M) → Ext w (absorb n o w) → LogOk w → LogOk (absorb n o w)
+  log_stays w n o e h = record {
+    places = h.places;
+    ids = h.ids;
+    logged = h.logged;
+    doubt_view = h.doubt_view;
+    recovered = h.recovered;
+    doubt_recovered = h.doubt_recovered;
+    rising = h.rising;
+    early = h.early;
+    ordered = h.ordered;
+    by_held = h.by_held;
+    doubt_held = h.doubt_held;
+    doubt_last = h.doubt_last;
+    doubt_low = h.doubt_low;
+    bounds = h.bounds;
+    asked = λ r s. ((h.asked r s).0, asked_ w (absorb n o w) r.id.node r.id.inc r.id.req e (h.asked r s).1);
+    doubt = λ r s. let a = h.doubt r s in (a.0, a.1, asked_ w (absorb n o w) r.id.node r.id.inc r.id.req e a.2, a.3);
+    counts = λ v c s. let a = h.counts v c s in
+        (a.0, a.1, a.2, a.3, entered_ w (absorb n o w) (locker_of a.2.members) (inc_of a.2.members (locker_of a.2.members)) v e a.4);
+    held = λ s. let a = h.held s in
+        (a.0, a.1, entered_ w (absorb n o w) (locker_of a.0.members) (inc_of a.0.members (locker_of a.0.members)) w.log.held e a.2);
+  }
+
+  pub ack_stays : (w : World M) (n : ℕ) (o : Out M) (v k : ℕ) → Ext w (absorb n o w) → AckOk w v k → AckOk (absorb n o w) v k
+  ack_stays w n o v k e h = record { view = h.view; declared = h.declared; place = h.place; later = h.later; members = all_reached w (absorb n o w) h.view.members k e h.members }
+
+  pub node_in : (w : World M) (n : ℕ) (x y : NodeState M) (es : List Effect) → Invariant w → w.nodes n ≡ Some x → Grown x y → NodeOk w n y → NodeOk (moved w n y es) n y
+  node_in w n x y es j at g h = node_stays w n (becomes y es) n y (ext_absorb w n x y es at g) (λ r s. (j.log.asked r s).1) h
+
+  -- what a rule owes that moves one node and leaves the log
+  pub record MoveOk (w : World M) (n : ℕ) (x y : NodeState M) (es : List Effect) : Type 0 where
+    pub grown : Grown x y
+    pub node : NodeOk (moved w n y es) n y
+    pub messages : (k : ℕ) (p : Packet) → slice_get (sent es) k ≡ Some p → Pooled (moved w n y es) p
+    pub acks : (k v p : ℕ) → slice_get (acked es) k ≡ Some (v, p) → AckOk (moved w n y es) v p
+    pub owner : Owner (moved w n y es) n y → OwnerOk (moved w n y es) n y
+    pub member : (m : ℕ) (z : NodeState M) → m ≢ n → Owner w m z → OwnerOk w m z → joining.is_open z.join ≡ true → inc_of z.join.view.members n ≡ y.join.inc → MemberOk w.log z.core.lock n y
+
+  pub move_keeps : (w : World M) (n : ℕ) (x y : NodeState M) (es : List Effect) → Invariant w → w.nodes n ≡ Some x → MoveOk w n x y es → Invariant (moved w n y es)
+  move_keeps w n x y es j at h =
+      let w' : World M = moved w n y es in
+      let e : Ext w w' = ext_absorb w n x y es at h.grown in
+      let ao : AskedOnly w = λ r s. (j.log.asked r s).1 in
+      record {
+        chain = record { chain = j.chain.chain; started = j.chain.started; locker = j.chain.locker };
+        log = log_stays w n (becomes y es) e j.log;
+        nodes = λ m z s. ⊎_elim
+            (λ (c : (m ≡ n) × (Some y ≡ Some z)). at_self (λ (a : ℕ) (b : NodeState M). NodeOk w' a b) m n y z c.0 c.1 h.node)
+            (λ (c : (m ≢ n) × (w.nodes m ≡ Some z)). node_stays w n (becomes y es) m z e ao (j.nodes m z c.1))
+            (put_cases w.nodes n (Some y) m z s);
+        owner = λ m z s. ⊎_elim
+            (λ (c : (m ≡ n) × (Some y ≡ Some z)). at_self (λ (a : ℕ) (b : NodeState M). Owner w' a b → OwnerOk w' a b) m n y z c.0 c.1 h.owner s)
+            (λ (c : (m ≢ n) × (w.nodes m ≡ Some z)).
+            let o : Owner w m z = record { runs = c.1; ready = s.ready; locker = s.locker; held = s.held } in
+            let k : OwnerOk w m z = j.owner m z o in
+            record {
+              sure = k.sure;
+              all_done = k.all_done;
+              closed = k.closed;
+              greatest = k.greatest;
+              members = λ op a b f i. ⊎_elim
+                  (λ (d : (a ≡ n) × (Some y ≡ Some b)). at_self (λ (t : ℕ) (u : NodeState M). inc_of z.join.view.members t ≡ u.join.inc → MemberOk w.log z.core.lock t u) a n y b d.0 d.1 (h.member m z c.0 o k op) i)
+                  (λ (d : (a ≢ n) × (w.nodes a ≡ Some b)). k.members op a b d.1 i)
+                  (put_cases w.nodes n (Some y) a b f);
+            })
+            (put_cases w.nodes n (Some y) m z s.runs);
+        pool = λ k p s. ⊎_elim
+            (λ (c : slice_get w.pool k ≡ Some p). pooled w w' p e ao (λ v i f. (j.log.counts v i f).0) (j.pool k p c))
+            (λ (c : (i : ℕ) × (slice_get (sent es) i ≡ Some p)). h.messages c.0 p c.1)
+            (slice_get_append w.pool (sent es) k p s);
+        acks = λ a v k s. ⊎_elim
+            (λ (c : slice_get w.acks a ≡ Some (v, k)). ack_stays w n (becomes y es) v k e (j.acks a v k c))
+            (λ (c : (i : ℕ) × (slice_get (acked es) i ≡ Some (v, k))). h.acks c.0 v k c.1)
+            (slice_get_append w.acks (acked es) a (v, k) s);
+      }
+
+  -- a node in a view sends: its view is declared, and the message is its own
+  pub told : (w : World M) (n : ℕ) (x y : NodeState M) (es : List Effect) (to : ℕ) (b : Body) → NodeOk w n x → x.join.view.number ≢ 0 → y.join.view ≡ x.join.view → y.join.node ≡ x.join.node → MsgOk (moved w n y es) x.join.view n to b → Pooled (moved w n y es) (packet y to b)
+  told w n x y es to b h nz vw nd ok =
+      let d = h.view nz in
+      let me : n ≡ y.join.node = sym (nd ∙ h.node) in
+      record {
+        view = x.join.view;
+        declared = ap (λ (v : View). view_in w.chain v.number) vw ∙ d.0;
+        number = ap (λ (v : View). v.number) (sym vw);
+        ok = subst (λ (m : ℕ). MsgOk (moved w n y es) x.join.view m to b) me ok;
+      }
+
+  -- what an owner keeps that its own move leaves
+  pub record SameLock (x y : NodeState M) : Type 0 where
+    pub ready : joining.is_ready x.join ≡ joining.is_ready y.join
+    pub open_ : joining.is_open x.join ≡ joining.is_open y.join
+    pub node : x.join.node ≡ y.join.node
+    pub view : x.join.view ≡ y.join.view
+    pub lock : x.core.lock ≡ y.core.lock
+    pub members : x.core.members ≡ y.core.members
+    pub greatest : x.core.greatest ≡ y.core.greatest
+    pub done : done_of x ≡ done_of y
+
+  pub same_lock : (x : NodeState M) → SameLock x x
+  same_lock x = record { ready = refl; open_ = refl; node = refl; view = refl; lock = refl; members = refl; greatest = refl; done = refl }
+
+  pub owner_moves : (w : World M) (n : ℕ) (x y : NodeState M) (es : List Effect) → Invariant w → w.nodes n ≡ Some x → SameLock x y → (Owner w n x → OwnerOk w n x → joining.is_open x.join ≡ true → inc_of x.join.view.members n ≡ y.join.inc → MemberOk w.log x.core.lock n y) → Owner (moved w n y es) n y → OwnerOk (moved w n y es) n y
+  owner_moves w n x y es j at same self o =
+      let lk : joining.locks x.join ≡ joining.locks y.join = λ i. is_locker (same.view i).members (same.node i) in
+      let ox : Owner w n x = record { runs = at; ready = same.ready ∙ o.ready; locker = lk ∙ o.locker; held = ap (λ (v : View). v.number) same.view ∙ o.held } in
+      let k : OwnerOk w n x = j.owner n x ox in
+      let gr : (m : ℕ) → greatest_of x.core m ≡ greatest_of y.core m = λ m i. unwrap_or (slice_get (same.greatest i) (index_of (same.members i) m)) 0 in
+      record {
+        sure = k.sure;
+        all_done = sym same.done ∙ k.all_done;
+        closed = λ c. let h = k.closed (same.open_ ∙ c) in
+            (sym same.lock ∙ h.0, subst (λ (v : View). w.log.count v.number ≡ Some (length w.log.order)) same.view h.1);
+        greatest = λ r c i s b p. let q : r.id.req ≤ greatest_of x.core r.id.node = k.greatest r c (subst (λ (v : View). w.log.count v.number ≡ Some c) (sym same.view) i) s b (subst (λ (ms : List Member). 0 < inc_of ms r.id.node) (sym same.members) p) in
+            subst (λ (t : ℕ). r.id.req ≤ t) (gr r.id.node) q;
+        members = λ op a b f i.
+            let ix : inc_of x.join.view.members a ≡ b.join.inc = subst (λ (v : View). inc_of v.members a ≡ b.join.inc) (sym same.view) i in
+            subst (λ (l : Option Lock). MemberOk w.log l a b) same.lock (⊎_elim
+            (λ (d : (a ≡ n) × (Some y ≡ Some b)). at_self (λ (t : ℕ) (u : NodeState M). inc_of x.join.view.members t ≡ u.join.inc → MemberOk w.log x.core.lock t u) a n y b d.0 d.1 (self ox k (same.open_ ∙ op)) ix)
+            (λ (d : (a ≢ n) × (w.nodes a ≡ Some b)). k.members (same.open_ ∙ op) a b d.1 ix)
+            (put_cases w.nodes n (Some y) a b f));
+      }
+
+  -- a node stays as it is, and sends at most one message
+  pub stay_tells : (w : World M) (n : ℕ) (x : NodeState M) (es : List Effect) → Invariant w → w.nodes n ≡ Some x → acked es ≡ [] → ((k : ℕ) (p : Packet) → slice_get (sent es) k ≡ Some p → Pooled (moved w n x es) p) → Invariant (moved w n x es)
+  stay_tells w n x es j at na ms = move_keeps w n x x es j at (record {
+    grown = grown_refl x;
+    node = node_in w n x x es j at (grown_refl x) (j.nodes n x at);
+    messages = ms;
+    acks = λ k v q s. none_acked (λ (a b : ℕ). AckOk (moved w n x es) a b) k v q (subst (λ (l : List (ℕ × ℕ)). slice_get l k ≡ Some (v, q)) na s);
+    owner = owner_moves w n x x es j at (same_lock x) (λ o k op i. k.members op n x at i);
+    member = λ a z ne o k op i. k.members op n x at i;
+  })
+
+  pub stay_sends : (w : World M) (n : ℕ) (x : NodeState M) (to : ℕ) (b : Body) → Invariant w → w.nodes n ≡ Some x → Pooled (moved w n x (Send (packet x to b) ∷ [])) (packet x to b) → Invariant (absorb n (tells x to b) w)
+  stay_sends w n x to b j at p = stay_tells w n x (Send (packet x to b) ∷ []) j at refl (one_told (λ (q : Packet). Pooled (moved w n x (Send (packet x to b) ∷ [])) q) (packet x to b) p)
+
+  pub stay_keeps : (w : World M) (n : ℕ) (x : NodeState M) → Invariant w → w.nodes n ≡ Some x → Invariant (absorb n (nothing x) w)
+  stay_keeps w n x j at = stay_tells w n x [] j at refl (none_told (λ (q : Packet). Pooled (moved w n x []) q))
+
+  -- what the moved node itself has
+  pub self_node : (w : World M) (n : ℕ) (y : NodeState M) (es : List Effect) (P : NodeState M → Type 0) → P y → (z : NodeState M) → (moved w n y es).nodes n ≡ Some z → P z
+  self_node w n y es P p z e = ⊎_elim
+      (λ (d : (n ≡ n) × (Some y ≡ Some z)). let g : y ≡ z = cc in subst P g p)
+      (λ (d : (n ≢ n) × (w.nodes n ≡ Some z)). absurd (d.0 refl))
+      (put_cases w.nodes n (Some y) n z e)
+
+  pub reached_self : (w : World M) (n : ℕ) (y : NodeState M) (es : List Effect) (i k : ℕ) → i ≤ w.starts n → k ≤ done_of y → Reached (moved w n y es) n i k
+  reached_self w n y es i k s d = record { started = s; done = λ z e same. self_node w n y es (λ (t : NodeState M). k ≤ done_of t) d z e }

@@ -1,0 +1,275 @@
+-- Offers are followed, and the state is pulled.
+use Rattle.std.proofs.Common.{◌≡◌, ◌≢◌, ℕ, zero, suc, ◌+◌, ◌<◌, ◌≤◌, true, false, not, ◌&&◌, List, [], ◌∷◌, ◌++◌, length, take, drop, Option, Some, None, nat_eq, if◌then◌else◌, refl, sym, ap, ◌∙◌, subst, arith}
+use Rattle.gum_messages.specs.declared.member.Member.{Member}
+use Rattle.gum_messages.specs.declared.view.View.{View}
+use Rattle.gum_messages.specs.Members.{is_locker}
+use Rattle.gum_messages.specs.Places.{at_place}
+use Rattle.gum_messages.proofs.Branches.{if_cases, option_cases}
+use Rattle.update_records.specs.Entry.{Entry}
+use Rattle.view_reconcile.specs.declared.stage.Stage.{Stage}
+use Rattle.view_reconcile.specs.declared.stage.Stage.TheVariants as stage
+use Rattle.view_reconcile.specs.declared.step.Step.{Step}
+use Rattle.view_reconcile.specs.declared.step.Step.TheVariants as step
+use Rattle.view_reconcile.specs.Joining.{ReconcileState}
+use Rattle.view_reconcile.specs.Joining as joining
+use Rattle.cluster_rules.specs.Machines.{Machine, IsMachine, registry_at}
+use Rattle.cluster_rules.specs.Packets.{Packet, Offer, Need, Piece, Ready}
+use Rattle.cluster_rules.specs.Nodes.{Effect, NodeState, Offering, Out, Replica, Send, done_of, locker_at, nothing, packet, place_of, tells}
+use Rattle.cluster_rules.specs.Updates.{applied}
+use Rattle.cluster_rules.specs.Joins.{follows, gathers, joined, known_done, on_need, on_offer, on_piece, piece, says_ready, sends_piece, shows, takes_state, with_replica}
+use Rattle.cluster_rules.specs.Worlds.{World, absorb}
+use Rattle.cluster_laws.proofs.Inv.{AckOk, Has, Invariant, MemberOk, MsgOk, NodeOk, Pooled, WasReady, at_head, state_bytes, waits}
+use Rattle.cluster_laws.proofs.Stable.{Grown, grown_refl}
+use Rattle.cluster_laws.proofs.Moves.{move_keeps, moved, node_in, none_acked, one_told, reached_self, self_node, stay_keeps, stay_sends, told}
+use Rattle.cluster_laws.proofs.Applying.{and_true, done_at, fold_next, locker_not, next_replica, not_true, replica_next}
+use Rattle.std.proofs.Math.Seq.{take-add}
+use Rattle.std.proofs.lemmas.List.{take_all}
+use Rattle.view_reconcile.proofs.Cases.{becomes_ready_cases, offered_cases, pulled_cases}
+use Rattle.cluster_laws.proofs.Readying.{Readies, readied, ready_keeps, unready_unopen}
+
+-- a node that is alone in its view is its locker
+pub alone_locks : (s : ReconcileState) → joining.is_alone s ≡ true → joining.locks s ≡ true
+alone_locks s e = go s.view.members e
+  where
+    two : (m : Member) (ms : List Member) → (elim ms [ [] ↦ nat_eq m.node s.node | _ ↦ false ]) ≡ true → nat_eq m.node s.node ≡ true
+    two m [] e = e
+    two m (k ∷ ks) e = cc
+
+    go : (ms : List Member) → (elim ms [ [] ↦ false | m ∷ rest ↦ elim rest [ [] ↦ nat_eq m.node s.node | _ ↦ false ] ]) ≡ true → is_locker ms s.node ≡ true
+    go [] e = cc
+    go (m ∷ ms) e = two m ms e
+
+-- a member that has what was offered is ready, and not open yet
+pub taken_ready : (s : ReconcileState) (t : Stage) → joining.locks s ≡ false → joining.taken (record s { stage = t }) true ≡ (record s { stage = stage.Ready }, step.Ready)
+taken_ready s t nl = if_cases (λ (r : ReconcileState × Step). r ≡ (record s { stage = stage.Ready }, step.Ready)) (joining.is_alone s) _ _ (λ a. absurd (locker_not (joining.locks s) (alone_locks s a) nl)) (λ a. refl)
+
+pub take_length : {A : Type 0} (k : ℕ) (l : List A) → take k l ≡ take (length (take k l)) l
+take_length zero l = refl
+take_length (suc k) [] = refl
+take_length (suc k) (x ∷ l) = ap (λ (t : List _). x ∷ t) (take_length k l)
+
+pub place_is : (last : Option Entry) (k : ℕ) → place_of last ≡ Some k → (e : Entry) × (last ≡ Some e) × (e.place ≡ k)
+place_is None k e = absurd (cc)
+place_is (Some r) k e = (r, refl, cc)
+
+pub pulling_unready : (s : ReconcileState) (got : ℕ) → s.stage ≡ stage.Pulling got → joining.is_ready s ≡ false
+pulling_unready s got e = ap (λ (t : Stage). elim t [ stage.Ready ↦ true | stage.Open ↦ true | _ ↦ false ]) e
+
+module _ {M : Machine} where
+  pub was_ready_self : (w : World M) (n : ℕ) (y : NodeState M) (es : List Effect) → y.join.inc ≤ w.starts n → NodeOk (moved w n y es) n y → joining.is_ready y.join ≡ true → WasReady (moved w n y es) n y.join.inc y.join.view.number
+  was_ready_self w n y es st h rd =
+      let c = h.ready_state rd in
+      record {
+        count = c.1;
+        counted = c.2;
+        reached = reached_self w n y es y.join.inc c.1 st c.3;
+        clear = record {
+          started = st;
+          within = omega (arith, c.3, h.within);
+          clear = λ z r at same wt s id. self_node w n y es (λ (t : NodeState M). waits t → Has r n y.join.inc (at_head t) → c.1 < r.place) (λ a b. h.behind r c.1 a s b rd c.2) z at wt id;
+        };
+      }
+
+  pub ready_sent : (w : World M) (n : ℕ) (x y : NodeState M) (es : List Effect) (to : ℕ) → NodeOk w n x → x.join.view.number ≢ 0 → y.join.view ≡ x.join.view → y.join.node ≡ x.join.node → y.join.inc ≡ x.join.inc → NodeOk (moved w n y es) n y → joining.is_ready y.join ≡ true → Pooled (moved w n y es) (packet y to Ready)
+  ready_sent w n x y es to h nz vw nd ic ok rd =
+      let here = (h.view nz).1 in
+      let was : WasReady (moved w n y es) n y.join.inc y.join.view.number = was_ready_self w n y es (omega (arith, ic, h.inc)) ok rd in
+      told w n x y es to Ready h nz vw nd (subst (λ (i : ℕ). WasReady (moved w n y es) n i x.join.view.number) (ic ∙ sym here) (subst (λ (v : View). WasReady (moved w n y es) n y.join.inc v.number) vw was))
+
+  -- a member that becomes ready says so
+  pub says_keeps : (w : World M) (n : ℕ) (x : NodeState M) (s : Replica M) (last : Option Entry) (out : Option M.Outcome) → Invariant w → w.nodes n ≡ Some x → Readies w n x s last → joining.locks x.join ≡ false → (y : NodeState M) → y ≡ readied x s last out → Invariant (absorb n (says_ready y) w)
+  says_keeps w n x s last out j at k nl y eq =
+      let z : NodeState M = readied x s last out in
+      ready_keeps w n x s last out (λ (t : NodeState M). Send (packet t (locker_at t) Ready) ∷ []) j at k y eq
+      (λ ok. one_told (λ (p : Packet). Pooled (moved w n z (Send (packet z (locker_at z) Ready) ∷ [])) p) (packet z (locker_at z) Ready) (ready_sent w n x z (Send (packet z (locker_at z) Ready) ∷ []) (locker_at z) (j.nodes n x at) k.view refl refl refl ok refl))
+      refl
+      (λ o. absurd (locker_not (joining.locks x.join) o.locker nl))
+
+  -- NOT READY YET
+  abbrev pub pulling : NodeState M → Stage → Option Offering → List ℕ → NodeState M
+  pulling x t o bs = record x { join = record x.join { stage = t }; offer = o; bytes = bs }
+
+  pub still_keeps : (w : World M) (n : ℕ) (x : NodeState M) (t : Stage) (of : Option Offering) (bs : List ℕ) (offset : ℕ) → Invariant w → w.nodes n ≡ Some x → x.join.view.number ≢ 0 → joining.is_ready x.join ≡ false
+      → joining.is_ready (record x.join { stage = t }) ≡ false
+      → ((o : Offering) → of ≡ Some o → (w.log.count x.join.view.number ≡ Some o.count) × (o.cap ≡ w.log.cap) × (o.last ≡ at_place w.log.order o.count) × (joining.locks x.join ≡ false))
+      → ((got : ℕ) → t ≡ stage.Pulling got → (o : Offering) × (of ≡ Some o) × (bs ≡ take got (state_bytes w o.count)))
+      → Invariant (absorb n (tells (pulling x t of bs) (locker_at x) (Need offset)) w)
+  still_keeps w n x t of bs offset j at nz nr nt po pu =
+      let h : NodeOk w n x = j.nodes n x at in
+      let y : NodeState M = pulling x t of bs in
+      let es : List Effect = Send (packet y (locker_at x) (Need offset)) ∷ [] in
+      let gr : Grown x y = record { inc = refl; done = omega arith; passed = omega arith; asks = omega arith; view = omega arith; waits = λ e q z. z } in
+      let shut : joining.is_open x.join ≡ false = unready_unopen x.join nr in
+      let shut' : joining.is_open y.join ≡ false = unready_unopen y.join nt in
+      let no_ready : joining.is_ready y.join ≡ true → ⊥ = λ e. locker_not (joining.is_ready y.join) e nt in
+      let not_open : joining.is_open x.join ≡ true → ⊥ = λ e. locker_not (joining.is_open x.join) e shut in
+      move_keeps w n x y es j at (record {
+        grown = gr;
+        node = node_in w n x y es j at gr (record {
+          node = h.node;
+          inc = h.inc;
+          positive = h.positive;
+          core_node = h.core_node;
+          core_members = h.core_members;
+          entries = h.entries;
+          view = h.view;
+          peopled = h.peopled;
+          within = h.within;
+          registry = h.registry;
+          last = h.last;
+          below = h.below;
+          marked = h.marked;
+          idle = h.idle;
+          waiting = h.waiting;
+          waiting_doubt = h.waiting_doubt;
+          finished = h.finished;
+          core_open = h.core_open ∙ shut ∙ sym shut';
+          unsettled = λ c. absurd (locker_not (joining.is_open y.join) c shut');
+          ready_view = λ c. nz;
+          ready_state = λ c. absurd (no_ready c);
+          unready = λ c i b. h.unready c i nr;
+          pull = λ o e. let p = po o e in (nt, p.0, p.1, p.2, p.3);
+          pulled = pu;
+          closed = λ a b c. absurd (no_ready a);
+          lock = λ l e. absurd (not_open ((h.lock l e).0));
+          all_ready = λ c. absurd (locker_not (joining.is_open y.join) c shut');
+          settled = λ k e. let g = h.settled k e in (g.0, g.1, g.2, g.3, g.4, λ a. absurd (no_ready a));
+          spreading = λ s e. absurd (not_open ((h.spreading s e).3));
+          behind = λ r c wt st id rd. absurd (no_ready rd);
+        });
+        messages = one_told (λ (p : Packet). Pooled (moved w n y es) p) (packet y (locker_at x) (Need offset)) (told w n x y es (locker_at x) (Need offset) h nz refl refl tt);
+        acks = none_acked (λ (a b : ℕ). AckOk (moved w n y es) a b);
+        owner = λ o. absurd (no_ready o.ready);
+        member = λ a z ne o k op i. let old : MemberOk w.log z.core.lock n x = k.members op n x at i in record { near = old.near; free = old.free; heads = old.heads };
+      })
+
+  -- OFFER
+  pub known_is : (x : NodeState M) (k : ℕ) → known_done x ≡ Some k → (s : Replica M) × (x.replica ≡ Some s) × (s.done ≡ k)
+  known_is x k e = option_cases (λ (o : Option ℕ). o ≡ Some k → (s : Replica M) × (x.replica ≡ Some s) × (s.done ≡ k)) x.replica None (λ r. Some r.done) (λ none f. absurd (cc)) (λ r some f. (r, some, cc)) e
+
+  pub follows_keeps : (w : World M) (n : ℕ) (x : NodeState M) (o : Offering) → Invariant w → w.nodes n ≡ Some x → x.join.view.number ≢ 0 → joining.is_ready x.join ≡ false → joining.locks x.join ≡ false → w.log.count x.join.view.number ≡ Some o.count → o.cap ≡ w.log.cap → at_place w.log.order o.count ≡ o.last
+      → Invariant (absorb n (follows x o (joining.offered x.join o.count (place_of o.last) (known_done x))) w)
+  follows_keeps w n x o j at nz nr nl ct cp la =
+      let h : NodeOk w n x = j.nodes n x at in
+      let P : ReconcileState × Step → Type 0 = λ r. Invariant (absorb n (follows x o r) w) in
+      offered_cases P x.join o.count (place_of o.last) (known_done x)
+      (λ z. absurd (nz z))
+      (λ z rd. absurd (locker_not (joining.is_ready x.join) rd nr))
+      (λ z r kn. becomes_ready_cases P x.join
+      (λ a. absurd (locker_not (joining.locks x.join) (alone_locks x.join a) nl))
+      (λ a.
+      let s = known_is x o.count kn in
+      let eq : joined x o.count o.last (record x.join { stage = stage.Ready }) ≡ readied x s.0 o.last x.outcome =
+      λ i. record x { join = record x.join { stage = stage.Ready }; replica = s.1 i; last = o.last; offer = None; bytes = []; settled = if shows o.last x then Some (sym s.2 i) else x.settled } in
+      says_keeps w n x s.0 o.last x.outcome j at (record { unready = nr; view = nz; counted = ct ∙ ap (λ (k : ℕ). Some k) (sym s.2); reg = h.registry s.0 s.1; last_at = sym la ∙ ap (at_place w.log.order) (sym s.2) }) nl (joined x o.count o.last (record x.join { stage = stage.Ready })) eq))
+      (λ z r k kn next pl.
+      let s = known_is x k kn in
+      let e = place_is o.last o.count pl in
+      let here : at_place w.log.order (s.0.done + 1) ≡ Some e.0 = ap (at_place w.log.order) (ap (λ (t : ℕ). t + 1) s.2 ∙ next) ∙ la ∙ e.1 in
+      let t : Replica M = next_replica e.0 s.0 in
+      let dn : t.done ≡ o.count = ap (λ (t : ℕ). t + 1) s.2 ∙ next in
+      let out : Option M.Outcome = (applied e.0 x).outcome in
+      let y : NodeState M = joined (applied e.0 x) o.count o.last (record x.join { stage = stage.Ready }) in
+      let eq : y ≡ readied x t o.last out =
+      λ i. record x { join = record x.join { stage = stage.Ready }; replica = replica_next x e.0 s.0 s.1 i; last = o.last; offer = None; bytes = []; settled = if shows o.last x then Some (sym dn i) else x.settled; outcome = out } in
+      let keeps : Invariant (absorb n (says_ready y) w) = says_keeps w n x t o.last out j at (record {
+        unready = nr;
+        view = nz;
+        counted = ct ∙ ap (λ (k : ℕ). Some k) (sym dn);
+        reg = ap (λ (g : M.Registry). (M.apply e.0 g).0) (h.registry s.0 s.1) ∙ sym (fold_next M w.log.cap w.log.order s.0.done e.0 here);
+        last_at = sym la ∙ ap (at_place w.log.order) (sym dn);
+      }) nl y eq in
+      let tr = taken_ready x.join stage.Taking nl in
+      let Q : Option Entry → Type 0 = λ l. Invariant (absorb n (elim l [ None ↦ nothing x | Some a ↦ says_ready (joined (applied a x) o.count o.last (joining.taken (record x.join { stage = stage.Taking }) true).0) ]) w) in
+      subst Q (sym e.1) (subst (λ (r : ReconcileState × Step). Invariant (absorb n (says_ready (joined (applied e.0 x) o.count o.last r.0)) w)) (sym tr) keeps))
+      (λ z r.
+      let ps : (record x.join { stage = stage.Pulling 0 }, step.Pull 0) ≡ joining.pulls x.join = λ i. (record x.join { stage = if sym nl i then stage.Taking else stage.Pulling 0 }, step.Pull 0) in
+      subst P ps (still_keeps w n x (stage.Pulling 0) (Some o) [] 0 j at nz nr refl
+      (λ a e. let q : o ≡ a = cc in subst (λ (a : Offering). (w.log.count x.join.view.number ≡ Some a.count) × (a.cap ≡ w.log.cap) × (a.last ≡ at_place w.log.order a.count) × (joining.locks x.join ≡ false)) q (ct, cp, sym la, nl))
+      (λ got e. let q : 0 ≡ got = cc in (o, refl, subst (λ (g : ℕ). [] ≡ take g (state_bytes w o.count)) q refl))))
+
+  pub on_offer_keeps : (w : World M) (n : ℕ) (x : NodeState M) (from c cap : ℕ) (last : Option Entry) → Invariant w → w.nodes n ≡ Some x → x.join.view.number ≢ 0 → MsgOk w x.join.view from n (Offer c cap last) → Invariant (absorb n (on_offer x from (record { count = c; cap = cap; last = last })) w)
+  on_offer_keeps w n x from c cap last j at nz ok =
+      let h : NodeOk w n x = j.nodes n x at in
+      let o : Offering = record { count = c; cap = cap; last = last } in
+      let P : Out M → Type 0 = λ a. Invariant (absorb n a w) in
+      if_cases P (nat_eq from (locker_at x) && not (joining.locks x.join)) _ _
+      (λ g.
+      let nl : joining.locks x.join ≡ false = not_true (joining.locks x.join) (and_true (nat_eq from (locker_at x)) (not (joining.locks x.join)) g).1 in
+      if_cases P (joining.is_ready x.join) _ _
+      (λ rd. stay_sends w n x (locker_at x) Ready j at (ready_sent w n x x (Send (packet x (locker_at x) Ready) ∷ []) (locker_at x) h nz refl refl refl (node_in w n x x (Send (packet x (locker_at x) Ready) ∷ []) j at (grown_refl x) h) rd))
+      (λ nr. follows_keeps w n x o j at nz nr nl ok.0 ok.1 ok.2))
+      (λ g. stay_keeps w n x j at)
+
+  -- THE STATE IN PIECES
+  pub on_need_keeps : (w : World M) (n : ℕ) (x : NodeState M) (from offset : ℕ) → Invariant w → w.nodes n ≡ Some x → x.join.view.number ≢ 0 → (joining.locks x.join ≡ true → joining.is_ready x.join ≡ true) → Invariant (absorb n (on_need x from offset) w)
+  on_need_keeps w n x from offset j at nz lr =
+      let h : NodeOk w n x = j.nodes n x at in
+      let P : Out M → Type 0 = λ a. Invariant (absorb n a w) in
+      option_cases P x.replica (nothing x) (λ r. if joining.locks x.join && not (joining.is_open x.join) then sends_piece x from (M.encode r.registry) offset else nothing x)
+      (λ none. stay_keeps w n x j at)
+      (λ r some. if_cases P (joining.locks x.join && not (joining.is_open x.join)) _ _
+      (λ g.
+      let a = and_true (joining.locks x.join) (not (joining.is_open x.join)) g in
+      let shut : joining.is_open x.join ≡ false = not_true (joining.is_open x.join) a.1 in
+      let ct : w.log.count x.join.view.number ≡ Some (done_of x) = h.closed (lr a.0) a.0 shut in
+      let dn : done_of x ≡ r.done = done_at x r some in
+      let bs : List ℕ = M.encode r.registry in
+      let same : bs ≡ state_bytes w (done_of x) = ap M.encode (h.registry r some ∙ ap (registry_at M w.log.cap w.log.order) (sym dn)) in
+      option_cases P (joining.piece_length (length bs) offset) (nothing x) (λ count. tells x from (piece bs offset count))
+      (λ none. stay_keeps w n x j at)
+      (λ count some_. stay_sends w n x from (piece bs offset count) j at (told w n x x (Send (packet x from (piece bs offset count)) ∷ []) from (piece bs offset count) h nz refl refl (
+        done_of x,
+        ct,
+        ap length same,
+        take_length count (drop offset bs) ∙ ap (λ (s : List ℕ). take (length (take count (drop offset bs))) (drop offset s)) same,
+      ))))
+      (λ g. stay_keeps w n x j at))
+
+  pub whole_keeps : IsMachine M → (w : World M) (n : ℕ) (x : NodeState M) (o : Offering) (bs : List ℕ) → Invariant w → w.nodes n ≡ Some x → x.join.view.number ≢ 0 → joining.is_ready x.join ≡ false → x.offer ≡ Some o → bs ≡ state_bytes w o.count → Invariant (absorb n (takes_state x bs (record x.join { stage = stage.Taking })) w)
+  whole_keeps law w n x o bs j at nz nr of eq =
+      let h : NodeOk w n x = j.nodes n x at in
+      let p = h.pull o of in
+      let g : M.Registry = registry_at M w.log.cap w.log.order o.count in
+      let dec : M.decode o.cap bs ≡ Some g = (λ i. M.decode (p.2 i) (eq i)) ∙ law.reads_back w.log.cap (take o.count w.log.order) in
+      let s : Replica M = record { registry = g; done = o.count } in
+      let y : NodeState M = joined (with_replica x g o.count) o.count o.last (record x.join { stage = stage.Ready }) in
+      let keeps : Invariant (absorb n (says_ready y) w) = says_keeps w n x s o.last x.outcome j at (record { unready = nr; view = nz; counted = p.1; reg = refl; last_at = p.3 }) p.4 y refl in
+      let tr = taken_ready x.join stage.Taking p.4 in
+      let taking : ReconcileState = record x.join { stage = stage.Taking } in
+      let D : Option M.Registry → Out M = λ d. elim d [
+        | Some registry ↦ says_ready (joined (with_replica x registry o.count) o.count o.last (joining.taken taking true).0)
+        | None ↦ tells (record x { join = (joining.taken taking false).0; bytes = [] }) (locker_at x) (Need 0)
+      ] in
+      let one : Invariant (absorb n (D (Some g)) w) = subst (λ (r : ReconcileState × Step). Invariant (absorb n (says_ready (joined (with_replica x g o.count) o.count o.last r.0)) w)) (sym tr) keeps in
+      let two : Invariant (absorb n (D (M.decode o.cap bs)) w) = subst (λ (d : Option M.Registry). Invariant (absorb n (D d) w)) (sym dec) one in
+      subst (λ (f : Option Offering). Invariant (absorb n (elim f [
+        | None ↦ nothing x
+        | Some a ↦ elim (M.decode a.cap bs) [
+          | Some registry ↦ says_ready (joined (with_replica x registry a.count) a.count a.last (joining.taken taking true).0)
+          | None ↦ tells (record x { join = (joining.taken taking false).0; bytes = [] }) (locker_at x) (Need 0)
+        ]
+      ]) w)) (sym of) two
+
+  pub on_piece_keeps : IsMachine M → (w : World M) (n : ℕ) (x : NodeState M) (from total offset : ℕ) (bytes : List ℕ) → Invariant w → w.nodes n ≡ Some x → x.join.view.number ≢ 0 → MsgOk w x.join.view from n (Piece total offset bytes) → Invariant (absorb n (on_piece x total offset bytes) w)
+  on_piece_keeps law w n x from total offset bytes j at nz ok =
+      let h : NodeOk w n x = j.nodes n x at in
+      let P : ReconcileState × Step → Type 0 = λ r. Invariant (absorb n (gathers x bytes r) w) in
+      let count_is : (o : Offering) → w.log.count x.join.view.number ≡ Some o.count → ok.0 ≡ o.count = λ o e. let q : Some ok.0 ≡ Some o.count = sym ok.1 ∙ e in cc in
+      let more : (o : Offering) → w.log.count x.join.view.number ≡ Some o.count → x.bytes ≡ take offset (state_bytes w o.count) → x.bytes ++ bytes ≡ take (offset + length bytes) (state_bytes w o.count) =
+      λ o e f. let b : bytes ≡ take (length bytes) (drop offset (state_bytes w o.count)) = ok.3 ∙ ap (λ (c : ℕ). take (length bytes) (drop offset (state_bytes w c))) (count_is o e) in
+      (λ i. f i ++ b i) ∙ sym (take-add offset (length bytes) (state_bytes w o.count)) in
+      pulled_cases P x.join total offset (length bytes)
+      (stay_keeps w n x j at)
+      (λ e lt.
+      let nr : joining.is_ready x.join ≡ false = pulling_unready x.join offset e in
+      let q = h.pulled offset e in
+      still_keeps w n x (stage.Pulling (offset + length bytes)) x.offer (x.bytes ++ bytes) (offset + length bytes) j at nz nr refl
+      (λ o f. let p = h.pull o f in (p.1, p.2, p.3, p.4))
+      (λ got f. let g : offset + length bytes ≡ got = cc in (q.0, q.1, more q.0 (h.pull q.0 q.1).1 q.2 ∙ ap (λ (k : ℕ). take k (state_bytes w q.0.count)) g)))
+      (λ e le.
+      let nr : joining.is_ready x.join ≡ false = pulling_unready x.join offset e in
+      let q = h.pulled offset e in
+      let ct = (h.pull q.0 q.1).1 in
+      let all : take (offset + length bytes) (state_bytes w q.0.count) ≡ state_bytes w q.0.count = take_all (offset + length bytes) (state_bytes w q.0.count) (omega (arith, ok.2, ap (λ (c : ℕ). length (state_bytes w c)) (count_is q.0 ct))) in
+      whole_keeps law w n x q.0 (x.bytes ++ bytes) j at nz nr q.1 (more q.0 ct q.2 ∙ all))

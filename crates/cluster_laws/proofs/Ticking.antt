@@ -1,0 +1,197 @@
+-- A tick, a clock and a checkpoint.
+use Rattle.std.proofs.Common.{◌≡◌, ◌≢◌, ⊎_elim, ℕ, ◌+◌, Bool, true, false, not, ◌&&◌, List, [], ◌∷◌, ◌++◌, take, Option, Some, None, nat_lt, if◌then◌else◌, slice_get, refl, sym, ap, ◌∙◌, subst, arith}
+use Rattle.gum_messages.specs.declared.member.Member.{Member}
+use Rattle.gum_messages.specs.Members.{inc_of}
+use Rattle.gum_messages.specs.Places.{at_place}
+use Rattle.gum_messages.proofs.Branches.{if_cases, option_cases}
+use Rattle.gum_messages.proofs.Placing.{place_within}
+use Rattle.update_records.specs.Entry.{Entry}
+use Rattle.gum_core.specs.declared.decision.Decision.{Decision}
+use Rattle.gum_core.specs.Updating.{CoreState, greatest_of}
+use Rattle.gum_core.specs.Updating as updating
+use Rattle.view_reconcile.specs.declared.step.Step.{Step}
+use Rattle.view_reconcile.specs.declared.step.Step.TheVariants as step
+use Rattle.view_reconcile.specs.Joining.{ReconcileState}
+use Rattle.view_reconcile.specs.Joining as joining
+use Rattle.cluster_rules.specs.Machines.{Machine, IsMachine, replay}
+use Rattle.cluster_rules.specs.Packets.{Body, Packet, Granted, Apply, Offer, Need, Ready}
+use Rattle.cluster_rules.specs.Nodes.{Effect, NodeState, Out, Replica, Send, done_of, halts, has_state, locker_at, members_of, number_of, packet}
+use Rattle.cluster_rules.specs.Updates.{tick_head, tick_lock}
+use Rattle.cluster_rules.specs.Joins.{offer_each, offered_cap, tick_join}
+use Rattle.cluster_rules.specs.Receiving.{checkpoint, clock, tick}
+use Rattle.cluster_rules.specs.Worlds.{World, absorb, acked, sent}
+use Rattle.cluster_laws.proofs.Inv.{AckOk, Invariant, LoggedIn, MemberOk, NodeOk, Pooled}
+use Rattle.cluster_laws.proofs.Stable.{Grown, grown_refl}
+use Rattle.cluster_laws.proofs.Moves.{move_keeps, moved, node_in, none_acked, none_told, one_told, owner_moves, slice_get_append, stay_keeps, stay_tells, told}
+use Rattle.cluster_laws.proofs.Applying.{and_true, done_at, lt_true, not_true, state_of}
+use Rattle.gum_core.proofs.Cases.{ticked_cases}
+use Rattle.view_reconcile.proofs.Cases.{pulled_bytes_says}
+use Rattle.cluster_laws.proofs.HeadRules.{open_is_ready}
+use Rattle.cluster_laws.proofs.Heads.{ask_told, asks_acks, asks_told, full_asks, length_some}
+use Rattle.cluster_laws.proofs.Offering.{ready_sent}
+use Rattle.cluster_laws.proofs.Opening.{acked_append, sent_append}
+use Rattle.cluster_laws.proofs.Asking.{granted_ok}
+use Rattle.cluster_laws.proofs.Stopping.{halt_keeps, stop_keeps}
+
+-- messages and no acknowledgements, in two parts
+pub record Tells (P : Packet → Type 0) (es : List Effect) : Type 0 where
+  pub quiet : acked es ≡ []
+  pub each : (k : ℕ) (p : Packet) → slice_get (sent es) k ≡ Some p → P p
+
+pub tells_none : (P : Packet → Type 0) → Tells P []
+tells_none P = record { quiet = refl; each = none_told P }
+
+pub tells_one : (P : Packet → Type 0) (p : Packet) → P p → Tells P (Send p ∷ [])
+tells_one P p h = record { quiet = refl; each = one_told P p h }
+
+pub tells_both : (P : Packet → Type 0) (a b : List Effect) → Tells P a → Tells P b → Tells P (a ++ b)
+tells_both P a b h g = record {
+  quiet = acked_append a b ∙ (λ i. h.quiet i ++ g.quiet i);
+  each = λ k p e. ⊎_elim
+      (λ (c : slice_get (sent a) k ≡ Some p). h.each k p c)
+      (λ (c : (j : ℕ) × (slice_get (sent b) j ≡ Some p)). g.each c.0 p c.1)
+      (slice_get_append (sent a) (sent b) k p (ap (λ (l : List Packet). slice_get l k) (sym (sent_append a b)) ∙ e));
+}
+
+module _ {M : Machine} where
+  -- the capacity of a node's registry is the log's
+  pub replay_cap : IsMachine M → (l : List Entry) (g : M.Registry) → M.cap (replay M l g) ≡ M.cap g
+  replay_cap law [] g = refl
+  replay_cap law (e ∷ l) g = replay_cap law l (M.apply e g).0 ∙ law.keeps e g
+
+  pub cap_is : IsMachine M → (w : World M) (n : ℕ) (x : NodeState M) → NodeOk w n x → has_state x ≡ true → offered_cap x ≡ w.log.cap
+  cap_is law w n x h st =
+      let s = state_of x st in
+      let e : M.cap s.0.registry ≡ w.log.cap = ap M.cap (h.registry s.0 s.1) ∙ replay_cap law (take s.0.done w.log.order) (M.empty w.log.cap) ∙ law.begins w.log.cap in
+      ap (λ (r : Option (Replica M)). elim r [ None ↦ 0 | Some r ↦ M.cap r.registry ]) s.1 ∙ e
+
+  pub offers_told : (P : Packet → Type 0) (x : NodeState M) (b : Body) (ms : List Member) → ((to : ℕ) → joining.waits_for x.join to ≡ true → P (packet x to b)) → Tells P (offer_each x b ms)
+  offers_told P x b [] h = tells_none P
+  offers_told P x b (m ∷ ms) h =
+      let rest : Tells P (offer_each x b ms) = offers_told P x b ms h in
+      if_cases (λ (es : List Effect). Tells P es) (joining.waits_for x.join m.node) _ _
+      (λ e. tells_both P (Send (packet x m.node b) ∷ []) (offer_each x b ms) (tells_one P (packet x m.node b) (h m.node e)) rest)
+      (λ e. rest)
+
+  pub head_told : (w : World M) (n : ℕ) (x : NodeState M) (es : List Effect) → Invariant w → w.nodes n ≡ Some x → Tells (λ (p : Packet). Pooled (moved w n x es) p) (tick_head x (updating.ticked x.core))
+  head_told w n x es j at =
+      let h : NodeOk w n x = j.nodes n x at in
+      let P : Packet → Type 0 = λ p. Pooled (moved w n x es) p in
+      ticked_cases (λ (d : Decision). Tells P (tick_head x d)) x.core
+      (tells_none P)
+      (λ op some none.
+      let jo : joining.is_open x.join ≡ true = sym h.core_open ∙ op in
+      let rd : joining.is_ready x.join ≡ true = open_is_ready x.join jo in
+      let full : x.core.queue ≢ [] = length_some x.core.queue some in
+      record {
+        quiet = asks_acks x (Some (x.core.passed + 1));
+        each = asks_told P x (Some (x.core.passed + 1)) (λ req u us q e.
+            let same : x.core.passed + 1 ≡ req = cc in
+            ask_told w n x x es req u j at (grown_refl x) refl refl refl rd (omega (arith, full_asks x full)) (λ r c st id i. h.behind r c (full, h.unsettled jo) st (record { node = id.node; inc = id.inc; req = id.req ∙ sym same }) rd i));
+      })
+      (λ op some s sp to rc. option_cases (λ (l : List Effect). Tells P l) x.spreads [] (λ e. Send (packet x to (Apply e)) ∷ [])
+      (λ none. tells_none P)
+      (λ e has.
+      let t = h.spreading s sp in
+      let q : Some t.0 ≡ Some e = sym t.1 ∙ has in
+      let same : t.0 ≡ e = cc in
+      tells_one P (packet x to (Apply e)) (told w n x x es to (Apply e) h (h.ready_view (open_is_ready x.join t.3)) refl refl (subst (λ (a : Entry). LoggedIn w.log a x.join.view.number) same (record { at = t.4.at; view = t.4.view })))))
+
+  pub lock_told : (w : World M) (n : ℕ) (x : NodeState M) (es : List Effect) → Invariant w → w.nodes n ≡ Some x → Tells (λ (p : Packet). Pooled (moved w n x es) p) (tick_lock x)
+  lock_told w n x es j at =
+      let P : Packet → Type 0 = λ p. Pooled (moved w n x es) p in
+      option_cases (λ (l : List Effect). Tells P l) x.core.lock [] (λ l. elim x.last [ None ↦ [] | Some e ↦ Send (packet x l.node (Granted e)) ∷ [] ])
+      (λ none. tells_none P)
+      (λ l lk. option_cases (λ (t : List Effect). Tells P t) x.last [] (λ e. Send (packet x l.node (Granted e)) ∷ [])
+      (λ none. tells_none P)
+      (λ e la. tells_one P (packet x l.node (Granted e)) (granted_ok w n x l e es j at lk la)))
+
+  pub join_told : IsMachine M → (w : World M) (n : ℕ) (x : NodeState M) (es : List Effect) → Invariant w → w.nodes n ≡ Some x → (joining.locks x.join ≡ true → x.join.view.number ≢ 0 → joining.is_ready x.join ≡ true) → Tells (λ (p : Packet). Pooled (moved w n x es) p) (tick_join x (joining.ticked x.join))
+  join_told law w n x es j at lr =
+      let h : NodeOk w n x = j.nodes n x at in
+      let P : Packet → Type 0 = λ p. Pooled (moved w n x es) p in
+      let Q : Step → Type 0 = λ s. Tells P (tick_join x s) in
+      if_cases Q (joining.locks x.join) _ _
+      (λ lk. if_cases Q (nat_lt 0 (joining.awaited x.join)) _ _
+      (λ some. offers_told P x (Offer (done_of x) (offered_cap x) x.last) (members_of x) (λ to wf.
+      let a = and_true (joining.locks x.join && not (joining.is_open x.join) && nat_lt 0 (inc_of x.join.view.members to)) (not (joining.counts_ready x.join to)) wf in
+      let b = and_true (joining.locks x.join && not (joining.is_open x.join)) (nat_lt 0 (inc_of x.join.view.members to)) a.0 in
+      let c = and_true (joining.locks x.join) (not (joining.is_open x.join)) b.0 in
+      let shut : joining.is_open x.join ≡ false = not_true (joining.is_open x.join) c.1 in
+      let nz : x.join.view.number ≢ 0 = h.peopled to (lt_true 0 (inc_of x.join.view.members to) b.1) in
+      let rd : joining.is_ready x.join ≡ true = lr lk nz in
+      let st = (h.ready_state rd).0 in
+      let s = state_of x st in
+      told w n x x es to (Offer (done_of x) (offered_cap x) x.last) h nz refl refl (h.closed rd lk shut, cap_is law w n x h st, ap (at_place w.log.order) (done_at x s.0 s.1) ∙ sym (h.last s.0 s.1))))
+      (λ none. tells_none P))
+      (λ lk. option_cases Q (joining.pulled_bytes x.join) (if joining.is_ready x.join && not (joining.is_open x.join) then step.Ready else step.Nothing) (λ got. step.Pull got)
+      (λ none. if_cases Q (joining.is_ready x.join && not (joining.is_open x.join)) _ _
+      (λ g. let rd : joining.is_ready x.join ≡ true = (and_true (joining.is_ready x.join) (not (joining.is_open x.join)) g).0 in
+      tells_one P (packet x (locker_at x) Ready) (ready_sent w n x x es (locker_at x) h (h.ready_view rd) refl refl refl (node_in w n x x es j at (grown_refl x) h) rd))
+      (λ g. tells_none P))
+      (λ got some.
+      let p = h.pulled got (pulled_bytes_says x.join got some) in
+      let c = j.log.counts x.join.view.number p.0.count ((h.pull p.0 p.1).1) in
+      let nz : x.join.view.number ≢ 0 = λ e. absurd (omega (arith, e, (place_within w.chain x.join.view.number c.2 c.3).0)) in
+      tells_one P (packet x (locker_at x) (Need got)) (told w n x x es (locker_at x) (Need got) h nz refl refl tt)))
+
+  pub tick_keeps : IsMachine M → (w : World M) (n : ℕ) (x : NodeState M) → Invariant w → w.nodes n ≡ Some x → (joining.locks x.join ≡ true → x.join.view.number ≢ 0 → joining.is_ready x.join ≡ true) → Invariant (absorb n (tick x) w)
+  tick_keeps law w n x j at lr =
+      let es : List Effect = (tick x).effects in
+      let P : Packet → Type 0 = λ p. Pooled (moved w n x es) p in
+      let t : Tells P es = tells_both P (tick_head x (updating.ticked x.core)) (tick_lock x ++ tick_join x (joining.ticked x.join)) (head_told w n x es j at) (tells_both P (tick_lock x) (tick_join x (joining.ticked x.join)) (lock_told w n x es j at) (join_told law w n x es j at lr)) in
+      stay_tells w n x es j at t.quiet t.each
+
+  -- the stamp is set
+  pub clock_keeps : (w : World M) (n : ℕ) (x : NodeState M) (stamp : ℕ) → Invariant w → w.nodes n ≡ Some x → Invariant (absorb n (clock x stamp) w)
+  clock_keeps w n x stamp j at =
+      let h : NodeOk w n x = j.nodes n x at in
+      let y : NodeState M = record x { stamp = stamp } in
+      let gr : Grown x y = record { inc = refl; done = omega arith; passed = omega arith; asks = omega arith; view = omega arith; waits = λ e q z. z } in
+      move_keeps w n x y [] j at (record {
+        grown = gr;
+        node = node_in w n x y [] j at gr (record {
+          node = h.node;
+          inc = h.inc;
+          positive = h.positive;
+          core_node = h.core_node;
+          core_members = h.core_members;
+          core_open = h.core_open;
+          entries = h.entries;
+          view = h.view;
+          peopled = h.peopled;
+          ready_view = h.ready_view;
+          within = h.within;
+          registry = h.registry;
+          last = h.last;
+          ready_state = h.ready_state;
+          below = h.below;
+          unready = h.unready;
+          pull = h.pull;
+          pulled = h.pulled;
+          closed = h.closed;
+          lock = h.lock;
+          marked = h.marked;
+          all_ready = h.all_ready;
+          idle = h.idle;
+          settled = h.settled;
+          unsettled = h.unsettled;
+          spreading = h.spreading;
+          waiting = h.waiting;
+          waiting_doubt = h.waiting_doubt;
+          behind = h.behind;
+          finished = h.finished;
+        });
+        messages = none_told (λ (p : Packet). Pooled (moved w n y []) p);
+        acks = none_acked (λ (a b : ℕ). AckOk (moved w n y []) a b);
+        owner = owner_moves w n x y [] j at (record { ready = refl; open_ = refl; node = refl; view = refl; lock = refl; members = refl; greatest = refl; done = refl }) (λ o k op i. let old : MemberOk w.log x.core.lock n x = k.members op n x at i in record { near = old.near; free = old.free; heads = old.heads });
+        member = λ a z ne o k op i. let old : MemberOk w.log z.core.lock n x = k.members op n x at i in record { near = old.near; free = old.free; heads = old.heads };
+      })
+
+  pub checkpoint_keeps : (w : World M) (n : ℕ) (x : NodeState M) (good : Bool) → Invariant w → w.nodes n ≡ Some x → Invariant (absorb n (checkpoint x w.log.held good) w)
+  checkpoint_keeps w n x good j at =
+      let P : Out M → Type 0 = λ o. Invariant (absorb n o w) in
+      let dies : P halts = halt_keeps w n (stop_keeps w n j) in
+      if_cases P (x.core.is_open && updating.locks x.core) _ _
+      (λ g. if_cases P (nat_lt (number_of x) w.log.held) _ _ (λ f. dies) (λ f. if_cases P good _ _ (λ b. stay_keeps w n x j at) (λ b. dies)))
+      (λ g. stay_keeps w n x j at)

@@ -1,0 +1,28 @@
+//! The protocol keeps its promises: after every list of events each registry is a prefix's of the one update order, and
+//! each acknowledged update stands in every later open view. The definitions are those of `cluster_rules`, the invariants
+//! and their proof stand in `proofs/`.
+#![tactic(auto)]
+
+ghost use Rattle.std.specs.Prelude.{ℕ, List};
+ghost use Rattle.cluster_rules.specs.Machines.{Machine, IsMachine};
+ghost use Rattle.cluster_rules.specs.Promises.{Kept, Safe};
+ghost use Rattle.cluster_rules.specs.Worlds.{Event, opening, run};
+
+/// What can be replicated: a deterministic state machine that reads back from its bytes.
+pub trait Replicated {
+    ghost machine: { Machine };
+
+    ghost lawful: { IsMachine machine };
+}
+
+/// Whatever messages are lost, repeated or reordered and wherever nodes die: every node's registry is the one that the
+/// first `done` records of the order make, each record stands at its place, and no request is logged twice.
+pub fn safe<R: Replicated>()
+    ensures { (cap : ℕ) (events : List Event) → Safe (run events (opening R.machine cap)) }
+{}
+
+/// Each acknowledged update stands in the order, and in every node that is open in the view of its acknowledgement or in
+/// a later one.
+pub fn kept<R: Replicated>()
+    ensures { (cap : ℕ) (events : List Event) → Kept (run events (opening R.machine cap)) }
+{}

@@ -1,0 +1,156 @@
+-- The rules, seen to run: what comes of some lists of events, by computation alone.
+use Rattle.std.proofs.Common.{◌≡◌, ℕ, ◌+◌, Bool, true, false, List, [], ◌∷◌, length, Option, Some, None, refl}
+use Rattle.gum_messages.specs.declared.member.Member.{Member}
+use Rattle.gum_messages.specs.declared.view.View.{View}
+use Rattle.update_records.specs.declared.update.Update.{Update}
+use Rattle.view_reconcile.specs.Joining as joining
+use Rattle.cluster_rules.specs.Machines.{Machine}
+use Rattle.cluster_rules.specs.Nodes.{NodeState, done_of}
+use Rattle.cluster_rules.specs.Updates.{InDoubt, Written}
+use Rattle.cluster_rules.specs.Worlds.{Declare, Deliver, Die, DieInDeliver, DieInInstall, Event, Install, Recovered, Start, Submit, World, opening, run}
+
+abbrev listed : List (ℕ × ℕ) → List Member
+listed [] = []
+listed (m ∷ ms) = record { node = m.0; inc = m.1 } ∷ listed ms
+
+abbrev view : ℕ → List (ℕ × ℕ) → View
+view number members = record { number = number; members = listed members }
+
+-- A registry that counts its records, over its capacity.
+abbrev tally : Machine
+tally = record {
+  Registry = ℕ × ℕ;
+  Outcome = ℕ;
+  empty = λ cap. (cap, 0);
+  cap = λ r. r.0;
+  apply = λ e r. ((r.0, r.1 + 1), r.1);
+  encode = λ r. r.1 ∷ [];
+  decode = λ cap bytes. elim bytes [ [] ↦ None | b ∷ bs ↦ Some (cap, b) ];
+}
+
+abbrev begin : World tally
+begin = opening tally 4096
+
+-- What a script shows of a node: whether it is open, in which view, and how many records it has applied.
+abbrev shown : Option (NodeState tally) → Option (Bool × (ℕ × ℕ))
+shown None = None
+shown (Some x) = Some (joining.is_open x.join, (x.join.view.number, done_of x))
+
+module _ (u : Update) where
+  -- ONE MEMBER: it opens, submits, is granted its own lock, and acknowledges at once.
+  abbrev one : List Event
+  one = Start 1 ∷ Declare (view 1 ((1, 1) ∷ [])) ∷ Install 1 1 (Recovered false) ∷ Submit 1 u ∷ Deliver 1 Written ∷ Deliver 2 Written ∷ Deliver 3 Written ∷ []
+
+  pub one_acks : (run one begin).acks ≡ (1, 1) ∷ []
+  one_acks = refl
+
+  pub one_applies : shown ((run one begin).nodes 1) ≡ Some (true, (1, 1))
+  one_applies = refl
+
+  pub one_logs : length (run one begin).log.order ≡ 1
+  one_logs = refl
+
+  -- TWO MEMBERS: node 2 pulls the state, the view opens, and an update of node 2 spreads and finishes.
+  abbrev both : List Event
+  both =
+      Start 1 ∷ Start 2 ∷ Declare (view 1 ((1, 1) ∷ (2, 1) ∷ [])) ∷ Install 2 1 (Recovered false) ∷ Install 1 1 (Recovered false)
+      -- Offer, Need, Piece, Ready, OpenView
+      ∷ Deliver 1 Written ∷ Deliver 2 Written ∷ Deliver 3 Written ∷ Deliver 4 Written ∷ Deliver 5 Written ∷ []
+
+  pub both_open : shown ((run both begin).nodes 1) ∷ shown ((run both begin).nodes 2) ∷ [] ≡ Some (true, (1, 0)) ∷ Some (true, (1, 0)) ∷ []
+  both_open = refl
+
+  abbrev joined : World tally
+  joined = run both begin
+
+  -- Ask, Granted; then Apply, Applied, Release
+  abbrev granted : List Event
+  granted = Submit 2 u ∷ Deliver 6 Written ∷ Deliver 7 Written ∷ []
+
+  abbrev spread : List Event
+  spread = Deliver 8 Written ∷ Deliver 9 Written ∷ Deliver 10 Written ∷ []
+
+  pub not_yet : (run granted joined).acks ≡ []
+  not_yet = refl
+
+  pub both_ack : (run spread (run granted joined)).acks ≡ (1, 1) ∷ []
+  both_ack = refl
+
+  pub both_apply : shown ((run spread (run granted joined)).nodes 1) ∷ shown ((run spread (run granted joined)).nodes 2) ∷ [] ≡ Some (true, (1, 1)) ∷ Some (true, (1, 1)) ∷ []
+  both_apply = refl
+
+  -- A message that comes twice changes nothing: the update is logged once and acknowledged once.
+  abbrev again : List Event
+  again = Deliver 6 Written ∷ Deliver 7 Written ∷ Deliver 8 Written ∷ Deliver 9 Written ∷ []
+
+  pub once : length (run again (run spread (run granted joined))).log.order ≡ 1
+  once = refl
+
+  pub acked_once : (run again (run spread (run granted joined))).acks ≡ (1, 1) ∷ []
+  acked_once = refl
+
+  -- A SETTLED HEAD: the Granted is lost, and the next view's offer shows node 2 its own record.
+  abbrev settled : List Event
+  settled = Submit 2 u ∷ Deliver 6 Written ∷ Declare (view 2 ((1, 1) ∷ (2, 1) ∷ [])) ∷ Install 1 2 (Recovered false) ∷ Install 2 2 (Recovered false) ∷ Deliver 8 Written ∷ []
+
+  -- Its sender dies, and the locker goes on alone with the record, which nobody acknowledges.
+  abbrev dies : List Event
+  dies = Die 2 ∷ Declare (view 3 ((1, 1) ∷ [])) ∷ Install 1 3 (Recovered false) ∷ []
+
+  pub dead_acks : (run dies (run settled joined)).acks ≡ []
+  dead_acks = refl
+
+  pub dead_kept : shown ((run dies (run settled joined)).nodes 1) ≡ Some (true, (3, 1))
+  dead_kept = refl
+
+  -- Or the view opens, and it is acknowledged without being logged again.
+  abbrev lives : List Event
+  lives = Deliver 9 Written ∷ Deliver 10 Written ∷ []
+
+  pub alive_acks : (run lives (run settled joined)).acks ≡ (2, 1) ∷ []
+  alive_acks = refl
+
+  pub alive_logs : length (run lives (run settled joined)).log.order ≡ 1
+  alive_logs = refl
+
+  -- A RECORD IN DOUBT: the append failed and the node halted; a recovery takes the record or drops it.
+  abbrev doubtful : List Event
+  doubtful = Start 1 ∷ Declare (view 1 ((1, 1) ∷ [])) ∷ Install 1 1 (Recovered false) ∷ Submit 1 u ∷ Deliver 1 InDoubt ∷ []
+
+  abbrev reopens : Bool → List Event
+  reopens found = Start 1 ∷ Declare (view 2 ((1, 2) ∷ [])) ∷ Install 1 2 (Recovered found) ∷ []
+
+  pub halted : shown ((run doubtful begin).nodes 1) ≡ None
+  halted = refl
+
+  pub taken : shown ((run (reopens true) (run doubtful begin)).nodes 1) ≡ Some (true, (2, 1))
+  taken = refl
+
+  pub dropped : shown ((run (reopens false) (run doubtful begin)).nodes 1) ≡ Some (true, (2, 0))
+  dropped = refl
+
+  -- A DEATH INSIDE AN APPEND leaves the record in doubt as well, and one inside an opening may have raised the claim.
+  abbrev torn : List Event
+  torn = Start 1 ∷ Declare (view 1 ((1, 1) ∷ [])) ∷ Install 1 1 (Recovered false) ∷ Submit 1 u ∷ DieInDeliver 1 Written ∷ []
+
+  pub torn_taken : shown ((run (reopens true) (run torn begin)).nodes 1) ≡ Some (true, (2, 1))
+  torn_taken = refl
+
+  abbrev raised : List Event
+  raised = Start 1 ∷ Declare (view 1 ((1, 1) ∷ [])) ∷ DieInInstall 1 1 true ∷ []
+
+  pub raised_held : (run raised begin).log.held ≡ 1
+  raised_held = refl
+
+  -- An owner of an older view is fenced: it halts at its next append, and nothing is logged.
+  abbrev fenced : List Event
+  fenced = Start 2 ∷ Declare (view 2 ((2, 1) ∷ [])) ∷ Install 2 2 (Recovered false) ∷ Submit 1 u ∷ Deliver 1 Written ∷ []
+
+  abbrev first : List Event
+  first = Start 1 ∷ Declare (view 1 ((1, 1) ∷ [])) ∷ Install 1 1 (Recovered false) ∷ []
+
+  pub fenced_halts : shown ((run fenced (run first begin)).nodes 1) ≡ None
+  fenced_halts = refl
+
+  pub fenced_logs : length (run fenced (run first begin)).log.order ≡ 0
+  fenced_logs = refl

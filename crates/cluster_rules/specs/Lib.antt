@@ -1,0 +1,8 @@
+pub mod Machines
+pub mod Packets
+pub mod Nodes
+pub mod Updates
+pub mod Joins
+pub mod Receiving
+pub mod Worlds
+pub mod Promises

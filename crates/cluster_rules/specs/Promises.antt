@@ -1,0 +1,23 @@
+-- What is promised of every world that a run comes to.
+use Rattle.std.specs.Prelude.{◌≡◌, ℕ, ◌+◌, ◌≤◌, true, length, Some}
+use Rattle.gum_messages.specs.Places.{at_place}
+use Rattle.update_records.specs.Entry.{Entry}
+use Rattle.view_reconcile.specs.Joining as joining
+use Rattle.cluster_rules.specs.Machines.{Machine, registry_at}
+use Rattle.cluster_rules.specs.Nodes.{NodeState, Replica, number_of}
+use Rattle.cluster_rules.specs.Worlds.{World}
+
+-- Every registry is a prefix's of the one order; records stand at their places, and none is logged twice. The doubtful
+-- record is the next one, and no record of the order.
+pub record Safe {M : Machine} (w : World M) : Type 0 where
+  pub within : (n : ℕ) (x : NodeState M) (r : Replica M) → w.nodes n ≡ Some x → x.replica ≡ Some r → r.done ≤ length w.log.order
+  pub registry : (n : ℕ) (x : NodeState M) (r : Replica M) → w.nodes n ≡ Some x → x.replica ≡ Some r → r.registry ≡ registry_at M w.log.cap w.log.order r.done
+  pub places : (k : ℕ) (e : Entry) → at_place w.log.order k ≡ Some e → e.place ≡ k
+  pub ids : (j k : ℕ) (d e : Entry) → at_place w.log.order j ≡ Some d → at_place w.log.order k ≡ Some e → d.id ≡ e.id → j ≡ k
+  pub next : (e : Entry) → w.log.doubtful ≡ Some e → e.place ≡ length w.log.order + 1
+  pub apart : (d e : Entry) (k : ℕ) → w.log.doubtful ≡ Some d → at_place w.log.order k ≡ Some e → d.id ≡ e.id → ⊥
+
+-- Each acknowledged update stands in the order, and in every node that is open in that view or in a later one.
+pub record Kept {M : Machine} (w : World M) : Type 0 where
+  pub stands : (v k : ℕ) (a : ℕ) → at_place w.acks a ≡ Some (v, k) → k ≤ length w.log.order
+  pub applied : (v k : ℕ) (a n : ℕ) (x : NodeState M) → at_place w.acks a ≡ Some (v, k) → w.nodes n ≡ Some x → joining.is_open x.join ≡ true → v ≤ number_of x → (r : Replica M) × (x.replica ≡ Some r) × (k ≤ r.done)

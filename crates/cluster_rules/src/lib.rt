@@ -1,0 +1,3 @@
+//! The rules of a node, the world of the protocol that they make, and what is promised of it.
+//! The definitions stand in `specs/`; this crate has no function.
+#![tactic(auto)]
