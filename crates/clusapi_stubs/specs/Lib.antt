@@ -1,0 +1,4 @@
+pub mod Grammar
+pub mod Inputs
+pub mod Kinds
+pub mod Outputs

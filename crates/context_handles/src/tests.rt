@@ -1,0 +1,85 @@
+use super::*;
+use clus_names::Path;
+use ndr_values::WireHandle;
+use std::alloc::Global;
+use std::test::Fail;
+use uuid::Uuid;
+
+fn root(alloc: Global, birth: u64) -> Held {
+    Held {
+        kind: Kind::Key,
+        path: Path::root(alloc),
+        birth,
+    }
+}
+
+// The handle of node 3 with this serial number.
+fn sent(serial: u8) -> WireHandle {
+    WireHandle {
+        attributes: 0,
+        id: Uuid::from_bytes([0, 0, 0, 3, 0, 0, 0, 0, 0, 0, 0, 0, 0, 0, 0, serial]),
+    }
+}
+
+fn birth_of(held: Option<&Held>) -> Option<u64> {
+    held.map(|held| held.birth)
+}
+
+#[test]
+fn a_handle_is_found_in_its_group_alone_until_it_is_closed(rt: HostRuntime) -> Result<(), Fail> {
+    let alloc = rt.alloc();
+    let mut handles = Handles::new(alloc, 3);
+    assert_eq!(rt; handles.join_group(0)?, Some(1));
+    assert_eq!(rt; handles.join_group(0)?, Some(2));
+    assert_eq!(rt; handles.open(1, root(alloc, 7))?, sent(1));
+    assert_eq!(rt; handles.open(2, root(alloc, 9))?, sent(2));
+    assert_eq!(rt; handles.serials(), 2);
+    for (group, handle, birth) in [
+        (1, sent(1), Some(7)),
+        (2, sent(1), None),
+        (1, sent(2), None),
+        (2, sent(2), Some(9)),
+        (2, sent(3), None),
+        (
+            2,
+            WireHandle {
+                attributes: 1,
+                id: sent(2).id,
+            },
+            None,
+        ),
+        (
+            2,
+            WireHandle {
+                attributes: 0,
+                id: Uuid::from_bytes([0; 16]),
+            },
+            None,
+        ),
+    ] {
+        assert_eq!(rt; birth_of(handles.find(group, &handle)), birth);
+    }
+    assert!(rt; !handles.close(2, &sent(1)));
+    assert!(rt; handles.close(1, &sent(1)));
+    assert!(rt; !handles.close(1, &sent(1)));
+    assert!(rt; handles.find(1, &sent(1)).is_none());
+    Ok(())
+}
+
+#[test]
+fn a_group_ends_with_its_last_connection(rt: HostRuntime) -> Result<(), Fail> {
+    let alloc = rt.alloc();
+    let mut handles = Handles::new(alloc, 3);
+    assert_eq!(rt; handles.join_group(1)?, None);
+    assert_eq!(rt; handles.join_group(0)?, Some(1));
+    assert_eq!(rt; handles.join_group(1)?, Some(1));
+    assert_eq!(rt; handles.open(1, root(alloc, 7))?, sent(1));
+    handles.leave(1);
+    assert_eq!(rt; birth_of(handles.find(1, &sent(1))), Some(7));
+    handles.leave(1);
+    assert!(rt; handles.find(1, &sent(1)).is_none());
+    assert_eq!(rt; handles.join_group(1)?, None);
+    assert_eq!(rt; handles.join_group(0)?, Some(2));
+    assert_eq!(rt; handles.open(2, root(alloc, 7))?, sent(2));
+    Ok(())
+}
