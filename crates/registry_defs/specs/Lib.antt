@@ -5,6 +5,7 @@ pub mod Changes
 pub mod Applying
 pub mod Readings
 pub mod Rising
+pub mod Enumeration
 pub mod Limits
 pub mod Spelling
 pub mod Nodes

@@ -3,7 +3,9 @@
 #![tactic(auto)]
 
 mod info;
+mod laws;
 mod outcome;
 
 pub use info::Info;
+pub use laws::nth_has_so_many_smaller;
 pub use outcome::Outcome;

@@ -4,6 +4,7 @@ ghost use Rattle.registry_defs.specs.Changes.{new_key, chain_made, created};
 ghost use Rattle.registry_defs.specs.Keys.{key_at};
 ghost use Rattle.registry_defs.specs.Nodes.{keys_of, path_of, spread};
 
+use crate::items::insert_at;
 use crate::key::Key;
 use crate::searching::search_keys;
 use clus_names::{Units, split_first_part};
@@ -59,7 +60,7 @@ impl Key {
                 Err(at) => {
                     // the whole chain comes first, so that a lack of memory leaves the tree as it was
                     let made = chain(alloc, part, rest, place, stamp)?;
-                    self.subkeys.insert(at, made)?;
+                    insert_at(&mut self.subkeys, at, made)?;
                     self.written = stamp;
                     Ok(())
                 }

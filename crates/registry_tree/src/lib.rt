@@ -8,6 +8,7 @@ mod changing;
 mod counting;
 mod creating;
 mod growth;
+mod items;
 mod key;
 mod reading;
 mod searching;

@@ -1,4 +1,4 @@
-ghost use Rattle.std.specs.Prelude.{◌≡◌, None, Some, MatchOption, option_copied, slice_get};
+ghost use Rattle.std.specs.Prelude.{◌≡◌, None, Some, MatchOption, slice_get};
 ghost use Rattle.clus_names.specs.Folding.{folded};
 ghost use Rattle.registry_defs.specs.Keys.{value_at};
 ghost use Rattle.registry_defs.specs.Nodes.{keys_of, subkey_entry};
@@ -6,6 +6,7 @@ ghost use Rattle.registry_defs.specs.Rising.{RisingKeys};
 ghost use Rattle.registry_defs.specs.Sections.{subkeys};
 ghost use Rattle.registry_tree.specs.Values.{value_data, value_entry};
 
+use crate::items::item_at;
 use crate::key::Key;
 use crate::searching::search_values;
 use crate::value::Value;
@@ -34,15 +35,5 @@ impl Key {
         ensures { MatchOption result (slice_get (subkeys (keys_of self.now)) index ≡ None) (λ key. slice_get (subkeys (keys_of self.now)) index ≡ Some (subkey_entry key.now)) }
     {
         item_at(&self.subkeys, index)
-    }
-}
-
-fn item_at<T>(items: &[T], index: usize) -> Option<&T>
-    ensures { option_copied result ≡ slice_get items.now index }
-{
-    if index < items.len() {
-        Some(&items[index])
-    } else {
-        None
     }
 }

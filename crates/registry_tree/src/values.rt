@@ -6,6 +6,7 @@ ghost use Rattle.registry_defs.specs.Changes.{value_set};
 ghost use Rattle.registry_defs.specs.Keys.{without};
 ghost use Rattle.registry_tree.specs.Values.{entries_of, RisingValues};
 
+use crate::items::insert_at;
 use crate::searching::search_values;
 use crate::value::Value;
 use clus_names::Name;
@@ -34,7 +35,7 @@ pub fn set_in(
         }
         Err(at) => {
             let name = name.copy(alloc)?;
-            values.insert(at, Value { name, kind, bytes })?;
+            insert_at(values, at, Value { name, kind, bytes })?;
             Ok(())
         }
     }

@@ -1,0 +1,14 @@
+//! The registry of the cluster: keys with values under names that ignore the case of ASCII letters, within a bounded size.
+//!
+//! Contracts see a registry as its cap and a finite map from paths to keys, and say what each call gives in the words of
+//! `registry_defs`.
+#![tactic(auto)]
+
+mod applying;
+mod changing;
+mod outcomes;
+mod reading;
+mod registry;
+
+pub use registry::Registry;
+pub use registry_defs::{Info, Outcome};

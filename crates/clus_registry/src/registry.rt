@@ -1,0 +1,89 @@
+ghost use Rattle.std.specs.Prelude.{◌≡◌, ◌≤◌, length, IfOk};
+ghost use Rattle.registry_defs.specs.Contents.{keys_in};
+ghost use Rattle.registry_defs.specs.Keys.{root_alone};
+ghost use Rattle.registry_defs.specs.Limits.{IsRegistry};
+ghost use Rattle.registry_defs.specs.Sizes.{size};
+ghost use Rattle.registry_defs.specs.Spelling.{registry_text};
+
+use registry_tree::Key;
+use std::alloc::{AllocError, Global};
+use std::marker::Model;
+use wire_fields::{Endian, Put};
+
+/// Keys with values, as the update order leaves them, in at most as many bytes as the cap says.
+#[derive(Drop)]
+pub struct Registry {
+    pub(crate) alloc: Global,
+    pub(crate) root: Key,
+    /// The length of the registry's encoding, which each change keeps up.
+    pub(crate) size: u32,
+    pub(crate) cap: u32,
+}
+
+impl Model for Registry {
+    ghost use Rattle.registry_defs.specs.Contents.{Contents, coded_contents};
+    ghost use Rattle.clus_registry.specs.Kept.{contents_of, IsCounted};
+
+    ghost Value = { Contents };
+
+    ghost coded = { coded_contents };
+
+    ghost view = { contents_of };
+
+    ghost invariant = { IsCounted };
+}
+
+impl Registry {
+    /// The empty registry: the root alone.
+    pub fn new(alloc: Global, cap: u32) -> Result<Registry, AllocError>
+        requires least { 4096 ≤ cap }
+        requires most { cap ≤ 16777216 }
+        ensures cap { IfOk result (λ registry. registry.cap ≡ cap) }
+        ensures keys { IfOk result (λ registry. keys_in registry ≡ root_alone) }
+    {
+        Ok(Registry {
+            alloc,
+            root: Key::root(alloc),
+            size: 16,
+            cap,
+        })
+    }
+
+    /// How many bytes its encoding has, which the cap bounds.
+    pub fn size(&self) -> u32
+        ensures exact { result ≡ size (keys_in self.now) }
+        ensures fits { result ≤ self.now.cap }
+        ensures limits { IsRegistry (keys_in self.now) }
+    {
+        self.size
+    }
+
+    pub fn cap(&self) -> u32
+        ensures exact { result ≡ self.now.cap }
+        ensures least { 4096 ≤ result }
+        ensures most { result ≤ 16777216 }
+    {
+        self.cap
+    }
+
+    pub fn copy(&self) -> Result<Registry, AllocError>
+        ensures { IfOk result (λ copied. copied ≡ self.now) }
+    {
+        Ok(Registry {
+            alloc: self.alloc,
+            root: self.root.copy(self.alloc)?,
+            size: self.size,
+            cap: self.cap,
+        })
+    }
+
+    /// The one encoding of the registry, which has `size` bytes.
+    pub fn to_bytes(&self) -> Result<Vec<u8>, AllocError>
+        ensures length { IfOk result (λ bytes. length bytes.items ≡ size (keys_in self.now)) }
+        ensures encoding { IfOk result (λ bytes. bytes.items ≡ registry_text (keys_in self.now)) }
+    {
+        let mut put = Put::new(self.alloc, Endian::Little);
+        self.root.write(&mut put)?;
+        Ok(put.into_bytes())
+    }
+}
