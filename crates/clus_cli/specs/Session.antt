@@ -95,3 +95,10 @@ abbrev pub Writes : List ℕ → Option (List ℕ) → Option (List ℕ) → Sta
 Writes input before now statuses.Done = IsAnswered input before now
 Writes input before now statuses.Usage = Wrote before now []
 Writes input before now _ = IsAnsweredInPart input before now
+
+-- A session has words, and no disk.
+abbrev pub SessionEnds : Status → Type 0
+SessionEnds statuses.Usage = ⊥
+SessionEnds statuses.DiskFault = ⊥
+SessionEnds (statuses.Fenced held) = ⊥
+SessionEnds _ = Unit {0}

@@ -5,6 +5,7 @@ mod connection;
 mod piece;
 mod running;
 mod status;
+mod words;
 
 pub use running::run;
 pub use status::Status;

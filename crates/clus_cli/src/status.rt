@@ -14,8 +14,12 @@ pub enum Status {
     ReadFault,
     /// The output could not be written.
     WriteFault,
+    /// A call of the disk failed.
+    DiskFault,
     /// Memory ran out.
     NoMemory,
+    /// The disk holds a greater fencing token than the command's.
+    Fenced { held: u32 },
 }
 
 impl Status {
@@ -28,7 +32,9 @@ impl Status {
             Status::Usage => 2,
             Status::ReadFault => 3,
             Status::WriteFault => 4,
+            Status::DiskFault => 5,
             Status::NoMemory => 6,
+            Status::Fenced { .. } => 9,
         }
     }
 
@@ -38,10 +44,12 @@ impl Status {
     {
         match self {
             Status::Done => String::from_str(alloc, ""),
-            Status::Usage => String::from_str(alloc, "usage: mscs session"),
+            Status::Usage => String::from_str(alloc, "usage: mscs session, format CAP"),
             Status::ReadFault => String::from_str(alloc, "read fault"),
             Status::WriteFault => String::from_str(alloc, "write fault"),
+            Status::DiskFault => String::from_str(alloc, "disk fault"),
             Status::NoMemory => String::from_str(alloc, "no memory"),
+            Status::Fenced { held } => format!(in alloc; "fenced by claim {held}"),
         }
     }
 }

@@ -1,6 +1,7 @@
 ghost use Rattle.std.specs.Prelude.{◌<◌, length};
 
 use super::*;
+use disk_core::{CrashDisk, Disk, FileDisk, MemDisk};
 use edge_io::{BytesSink, BytesSource};
 use std::alloc::Global;
 use std::test::*;
@@ -217,57 +218,61 @@ const VERIFIED_REQUEST: [u8; 128] = [
     0x18, 0x00, 0x00, 0x00, 0x02, 0x00, 0x00, 0x00, 0x00, 0x00, 0x00, 0x00, 0x00, 0x00, 0x1b, 0x00,
 ];
 
+/// A disk that no command of these tests uses.
+fn no_disk(rt: &HostRuntime) -> Result<FileDisk<'_, HostRuntime>, Fail> {
+    Ok(FileDisk::at(rt, String::from_str(rt.alloc(), "unused")?))
+}
+
 /// What `session` writes for an input that comes in pieces of so many bytes, and how it ends.
-fn session(alloc: Global, input: &[u8], piece: usize) -> Result<(Status, Vec<u8>), Fail>
+fn session(rt: &HostRuntime, input: &[u8], piece: usize) -> Result<(Status, Vec<u8>), Fail>
     requires { 0 < piece }
 {
+    let alloc = rt.alloc();
+    let mut disk = no_disk(rt)?;
     let mut words = Vec::new(alloc);
     words.push(String::from_str(alloc, "session")?)?;
     let mut source = BytesSource::new(input.to_vec(alloc)?, piece, Vec::new(alloc));
     let mut sink = BytesSink::new(alloc, Vec::new(alloc));
-    let status = run(alloc, &words, &mut source, &mut sink);
+    let status = run(alloc, &words, &mut source, &mut sink, &mut disk);
     Ok((status, sink.written().to_vec(alloc)?))
 }
 
-fn is_answered(alloc: Global, input: &[u8], answer: &[u8]) -> Result<bool, Fail> {
-    let (status, written) = session(alloc, input, 4096)?;
+fn is_answered(rt: &HostRuntime, input: &[u8], answer: &[u8]) -> Result<bool, Fail> {
+    let (status, written) = session(rt, input, 4096)?;
     Ok(status == Status::Done && written.as_slice() == answer)
 }
 
 #[test]
 fn a_stream_is_answered_however_it_is_cut(rt: HostRuntime) -> Result<(), Fail> {
-    let alloc = rt.alloc();
-    let (status, written) = session(alloc, &BIND_AND_REQUEST, 1)?;
+    let (status, written) = session(&rt, &BIND_AND_REQUEST, 1)?;
     assert_eq!(rt; status, Status::Done);
     assert_eq!(rt; written.as_slice(), ACK_AND_FAULT.as_slice());
-    let (status, written) = session(alloc, &BIND_AND_REQUEST, 7)?;
+    let (status, written) = session(&rt, &BIND_AND_REQUEST, 7)?;
     assert_eq!(rt; status, Status::Done);
     assert_eq!(rt; written.as_slice(), ACK_AND_FAULT.as_slice());
-    assert!(rt; is_answered(alloc, &BIND_AND_REQUEST, &ACK_AND_FAULT)?);
-    assert!(rt; is_answered(alloc, &BIND_AND_REQUEST[..72], &ACK_AND_FAULT[..56])?);
-    assert!(rt; is_answered(alloc, &BIND_AND_REQUEST[..9], &[])?);
-    assert!(rt; is_answered(alloc, &[], &[])?);
+    assert!(rt; is_answered(&rt, &BIND_AND_REQUEST, &ACK_AND_FAULT)?);
+    assert!(rt; is_answered(&rt, &BIND_AND_REQUEST[..72], &ACK_AND_FAULT[..56])?);
+    assert!(rt; is_answered(&rt, &BIND_AND_REQUEST[..9], &[])?);
+    assert!(rt; is_answered(&rt, &[], &[])?);
     Ok(())
 }
 
 #[test]
 fn binds_contexts_and_fragments_are_answered(rt: HostRuntime) -> Result<(), Fail> {
-    let alloc = rt.alloc();
-    assert!(rt; is_answered(alloc, &BIND_TWICE, &ACK_AND_NAK)?);
-    assert!(rt; is_answered(alloc, &THREE_CONTEXTS, &ONE_OF_THREE)?);
-    assert!(rt; is_answered(alloc, &REFUSED_BINDS, &REFUSALS)?);
-    assert!(rt; is_answered(alloc, &ALTER_FIRST, &REFUSALS[..21])?);
-    assert!(rt; is_answered(alloc, &ALTERED, &ALTER_ACCEPTED)?);
-    assert!(rt; is_answered(alloc, &FRAGMENTS, &TWO_FAULTS)?);
+    assert!(rt; is_answered(&rt, &BIND_TWICE, &ACK_AND_NAK)?);
+    assert!(rt; is_answered(&rt, &THREE_CONTEXTS, &ONE_OF_THREE)?);
+    assert!(rt; is_answered(&rt, &REFUSED_BINDS, &REFUSALS)?);
+    assert!(rt; is_answered(&rt, &ALTER_FIRST, &REFUSALS[..21])?);
+    assert!(rt; is_answered(&rt, &ALTERED, &ALTER_ACCEPTED)?);
+    assert!(rt; is_answered(&rt, &FRAGMENTS, &TWO_FAULTS)?);
     Ok(())
 }
 
 #[test]
 fn a_fault_of_the_stream_ends_the_answer(rt: HostRuntime) -> Result<(), Fail> {
-    let alloc = rt.alloc();
-    assert!(rt; is_answered(alloc, &INTERLEAVED, &ACK_AND_FAULT[..56])?);
-    assert!(rt; is_answered(alloc, &SHORT_FRAME, &ACK_AND_FAULT[..56])?);
-    assert!(rt; is_answered(alloc, &VERIFIED_REQUEST, &ACK_AND_FAULT[..56])?);
+    assert!(rt; is_answered(&rt, &INTERLEAVED, &ACK_AND_FAULT[..56])?);
+    assert!(rt; is_answered(&rt, &SHORT_FRAME, &ACK_AND_FAULT[..56])?);
+    assert!(rt; is_answered(&rt, &VERIFIED_REQUEST, &ACK_AND_FAULT[..56])?);
     Ok(())
 }
 
@@ -299,31 +304,124 @@ fn three_fragments(alloc: Global, last: &[u8]) -> Result<Vec<u8>, Fail>
 fn a_stub_is_taken_up_to_its_limit(rt: HostRuntime) -> Result<(), Fail> {
     let alloc = rt.alloc();
     let last = [0u8; 51];
-    assert!(rt; is_answered(alloc, &three_fragments(alloc, &last[..50])?, &ACK_AND_FAULT)?);
-    assert!(rt; is_answered(alloc, &three_fragments(alloc, &last)?, &ACK_AND_FAULT[..56])?);
+    assert!(rt; is_answered(&rt, &three_fragments(alloc, &last[..50])?, &ACK_AND_FAULT)?);
+    assert!(rt; is_answered(&rt, &three_fragments(alloc, &last)?, &ACK_AND_FAULT[..56])?);
     Ok(())
 }
 
 /// How a run with this word ends on the bind, where the listed reads and writes fail.
-fn ends(alloc: Global, text: &str, reads: &[u32], writes: &[u32]) -> Result<Status, Fail> {
+fn ends(rt: &HostRuntime, text: &str, reads: &[u32], writes: &[u32]) -> Result<Status, Fail> {
+    let alloc = rt.alloc();
+    let mut disk = no_disk(rt)?;
     let mut words = Vec::new(alloc);
     words.push(String::from_str(alloc, text)?)?;
     let input = BIND_TWICE[..72].to_vec(alloc)?;
     let mut source = BytesSource::new(input, 7, reads.to_vec(alloc)?);
     let mut sink = BytesSink::new(alloc, writes.to_vec(alloc)?);
-    Ok(run(alloc, &words, &mut source, &mut sink))
+    Ok(run(alloc, &words, &mut source, &mut sink, &mut disk))
 }
 
 #[test]
 fn a_run_ends_by_its_words_and_its_failing_calls(rt: HostRuntime) -> Result<(), Fail> {
     let alloc = rt.alloc();
-    assert_eq!(rt; ends(alloc, "session", &[], &[])?, Status::Done);
-    assert_eq!(rt; ends(alloc, "session x", &[], &[])?, Status::Usage);
-    assert_eq!(rt; ends(alloc, "session", &[1], &[])?, Status::ReadFault);
-    assert_eq!(rt; ends(alloc, "session", &[3], &[])?, Status::ReadFault);
-    assert_eq!(rt; ends(alloc, "session", &[], &[1])?, Status::WriteFault);
+    assert_eq!(rt; ends(&rt, "session", &[], &[])?, Status::Done);
+    assert_eq!(rt; ends(&rt, "session x", &[], &[])?, Status::Usage);
+    assert_eq!(rt; ends(&rt, "format", &[], &[])?, Status::Usage);
+    assert_eq!(rt; ends(&rt, "session", &[1], &[])?, Status::ReadFault);
+    assert_eq!(rt; ends(&rt, "session", &[3], &[])?, Status::ReadFault);
+    assert_eq!(rt; ends(&rt, "session", &[], &[1])?, Status::WriteFault);
     assert_eq!(rt; Status::Done.text(alloc)?.as_str(), "");
-    assert_eq!(rt; Status::Usage.text(alloc)?.as_str(), "usage: mscs session");
+    assert_eq!(rt;
+        Status::Usage.text(alloc)?.as_str(),
+        "usage: mscs session, format CAP"
+    );
     assert_eq!(rt; Status::ReadFault.number(), 3);
+    Ok(())
+}
+
+/// The least disk for every cap.
+fn blank_disk(alloc: Global) -> Result<MemDisk, Fail> {
+    Ok(MemDisk::new(alloc, 34_209_856)?)
+}
+
+/// How `format` with this cap ends on a disk.
+fn formats(alloc: Global, disk: &mut MemDisk, cap: &str) -> Result<Status, Fail> {
+    if disk.size() < 34_209_856 {
+        return Err(Fail::from("another disk"));
+    }
+    let mut words = Vec::new(alloc);
+    words.push(String::from_str(alloc, "format")?)?;
+    words.push(String::from_str(alloc, cap)?)?;
+    let mut source = BytesSource::new(Vec::new(alloc), 7, Vec::new(alloc));
+    let mut sink = BytesSink::new(alloc, Vec::new(alloc));
+    let status = run(alloc, &words, &mut source, &mut sink, disk);
+    if !sink.written().is_empty() {
+        return Err(Fail::from("something was written"));
+    }
+    Ok(status)
+}
+
+#[test]
+fn format_takes_a_cap_in_its_range(rt: HostRuntime) -> Result<(), Fail> {
+    let alloc = rt.alloc();
+    let mut disk = blank_disk(alloc)?;
+    for cap in [
+        "4095",
+        "16777217",
+        "04096",
+        "+4096",
+        "-4096",
+        "4096 ",
+        "",
+        "99999999999",
+    ] {
+        assert_eq!(rt; formats(alloc, &mut disk, cap)?, Status::Usage, "{cap}");
+    }
+    assert_eq!(rt; disk.calls(), 0);
+    for cap in ["4096", "16777216"] {
+        assert_eq!(rt; formats(alloc, &mut disk, cap)?, Status::Done, "{cap}");
+    }
+    disk.claim(4)?;
+    let fenced = formats(alloc, &mut disk, "4096")?;
+    assert_eq!(rt; fenced, Status::Fenced { held: 4 });
+    assert_eq!(rt; fenced.number(), 9);
+    assert_eq!(rt; fenced.text(alloc)?.as_str(), "fenced by claim 4");
+    Ok(())
+}
+
+/// The first bytes of a disk.
+fn front_of(disk: &mut MemDisk) -> Result<[u8; 106], Fail> {
+    if disk.size() < 106 {
+        return Err(Fail::from("another disk"));
+    }
+    let mut front = [9u8; 106];
+    disk.read(0, &mut front)?;
+    Ok(front)
+}
+
+/// On a blank disk it makes 8 calls, on one with a log 10. A failed one leaves no log that is whole before
+/// the last call.
+#[test]
+fn format_ends_with_a_failed_call_of_the_disk(rt: HostRuntime) -> Result<(), Fail> {
+    let alloc = rt.alloc();
+    let mut disk = blank_disk(alloc)?;
+    let mut fresh = [0u8; 106];
+    fresh[..16].copy_from_slice(b"\x01MSCSLOG\x02\0\0\0\0\x10\0\0");
+    fresh[64..82].copy_from_slice(&[1, 1, 0, 0, 0, 0, 0, 0, 0, 0, 0, 0, 0, 0, 0, 0, 128, 16]);
+    for (last, is_log) in [(8u32, false), (10, true), (0, true)] {
+        assert_eq!(rt; front_of(&mut disk)? == fresh, is_log);
+        for call in 1..last {
+            disk.fail_in(call);
+            assert_eq!(rt;
+                formats(alloc, &mut disk, "4096")?,
+                Status::DiskFault,
+                "{call}"
+            );
+        }
+        disk.fail_in(0);
+        assert_eq!(rt; formats(alloc, &mut disk, "4096")?, Status::Done);
+    }
+    assert_eq!(rt; Status::DiskFault.number(), 5);
+    assert_eq!(rt; Status::DiskFault.text(alloc)?.as_str(), "disk fault");
     Ok(())
 }

@@ -1,24 +1,37 @@
-//! The program `mscs`: the commands of `clus_cli` over the standard streams.
+//! The program `mscs`: the commands of `clus_cli` over the standard streams and a file.
 #![tactic(auto)]
 
 use clus_cli::{Status, run};
+use disk_core::FileDisk;
 use edge_io::{StdSink, StdSource};
+use std::alloc::AllocError;
 use std::process::ExitCode;
 use std::{env, io};
 
+/// The file that holds the log, in the folder where the program runs.
+const LOG: &str = "quorum.log";
+
 fn main(rt: HostRuntime) -> ExitCode {
     let status = match command_words(&rt) {
-        Ok(words) => {
-            let mut input = StdSource::new(rt.stdin());
-            let mut output = StdSink::new(rt.stdout());
-            run(rt.alloc(), &words, &mut input, &mut output)
-        }
+        Ok(words) => run_words(&rt, &words),
         Err(status) => status,
     };
     if status != Status::Done {
         tell(&rt, &status);
     }
     ExitCode::from(status.number())
+}
+
+/// Runs the command over the standard streams and the file of the log.
+fn run_words(rt: &HostRuntime, words: &[String]) -> Status {
+    let path = match String::from_str(rt.alloc(), LOG) {
+        Ok(path) => path,
+        Err(AllocError) => return Status::NoMemory,
+    };
+    let mut input = StdSource::new(rt.stdin());
+    let mut output = StdSink::new(rt.stdout());
+    let mut disk = FileDisk::at(rt, path);
+    run(rt.alloc(), words, &mut input, &mut output, &mut disk)
 }
 
 /// The words behind the program's name. One that isn't UTF-8 makes them no command.

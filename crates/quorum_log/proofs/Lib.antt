@@ -9,3 +9,6 @@ pub mod Transfers
 pub mod Opened
 pub mod Checkpoints
 pub mod Checkpointed
+pub mod Texts
+pub mod Formatted
+pub mod OneLog

@@ -153,7 +153,7 @@ ok_answer : (n : ℕ) (v w : DiskView) (result : Result ⊤ DiskFault) → IsOk 
 ok_answer n v w (Ok ok) is held = held
 ok_answer n v w (Err e) is held = cc
 
-step_held : (n : ℕ) (c : Call) (v w : DiskView) (ok : ⊤) → Carries n (c ∷ []) → Step c v (Ok ok) w → (v.current.held ≤ n) × (w.current.held ≡ v.current.held)
+pub step_held : (n : ℕ) (c : Call) (v w : DiskView) (ok : ⊤) → Carries n (c ∷ []) → Step c v (Ok ok) w → (v.current.held ≤ n) × (w.current.held ≡ v.current.held)
 step_held n (write m at bytes) v w ok carried step = (rw (← carried.0) step.answer.0, step.answer.1)
 step_held n (sync m) v w ok carried step = (rw (← carried.0) step.answer.0, step.answer.1)
 step_held n (claim m) v w ok carried step = absurd carried
@@ -165,7 +165,7 @@ step_refused n (sync m) v w Failed carried step = (rw (← carried.0) step.answe
 step_refused n (sync m) v w (Fenced held) carried step = (rw (← carried.0) step.answer.0, step.answer.1)
 step_refused n (claim m) v w e carried step = absurd carried
 
-carries_first : (n : ℕ) (c : Call) (cs : List Call) → Carries n (c ∷ cs) → Carries n (c ∷ []) × Carries n cs
+pub carries_first : (n : ℕ) (c : Call) (cs : List Call) → Carries n (c ∷ cs) → Carries n (c ∷ []) × Carries n cs
 carries_first n (write m at bytes) cs carried = ((carried.0, tt), carried.1)
 carries_first n (sync m) cs carried = ((carried.0, tt), carried.1)
 carries_first n (claim m) cs carried = absurd carried

@@ -16,7 +16,7 @@ use Rattle.quorum_log.specs.Image.{Holds, other_of}
 use Rattle.quorum_log.specs.Checks.{first_bad, header_checks, is_valid, current_half, HeaderFault, HalvesFault, IsBadImage, IsFoundCurrent}
 use Rattle.quorum_log.specs.Faults.{open_fault}
 use Rattle.quorum_log.specs.Logs.{StandsFor, log_of}
-use Rattle.quorum_log.specs.Opening.{OnlyRead, IsRead, ReadFails, OpenFails}
+use Rattle.quorum_log.specs.Opening.{OnlyRead, IsRead, ReadFails, ReadsImage, OpenFails}
 use Rattle.quorum_log.proofs.Moments.{passes_step, passes_trans, passes_here, step_told, settled_images, rose_before}
 use Rattle.quorum_log.proofs.Places.{SameWithin, same_number, within_part}
 use Rattle.quorum_log.proofs.Halves.{has_same, has_joined, half_within, other_which}
@@ -74,7 +74,7 @@ pub record Taken (n : ℕ) (v u : DiskView) : Type 0 where
   pub seen : IsTrue v.tells → u.current.seen ≡ v.current.seen
   pub passes : IsTrue v.tells → Passes (IsImage v.current) v u
 
-seen_image : (m : Moment) → IsImage m m.seen
+pub seen_image : (m : Moment) → IsImage m m.seen
 seen_image m = record { size = refl; outside = λ i free. refl }
 
 claimed_images : (v m : DiskView) (n : ℕ) → m.current ≡ record v.current { held = n } → (c : List ℕ) → IsImage m.current c → IsImage v.current c
@@ -235,3 +235,13 @@ opened n v u w image cap x other_valid taken read only found is_other told =
       tail = refl;
       other = subst Q (sym only.current) other;
     }
+
+-- both reads were made, whatever is answered then
+pub reads_on : (v w : DiskView) (result : Result ⊤ OpenFault) → ReadsImage v (Ok tt) w → ReadsImage v result w
+reads_on v w result reads = elim reads.2 [
+  | inl failed ↦ absurd (cc (failed.2))
+  | inr read ↦ elim read [
+    | inl stopped ↦ absurd (cc (stopped.3))
+    | inr rest ↦ (reads.0, reads.1, inr (inr rest))
+  ]
+]

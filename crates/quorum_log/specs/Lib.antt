@@ -5,3 +5,4 @@ pub mod Faults
 pub mod Logs
 pub mod Opening
 pub mod Changes
+pub mod Formats

@@ -1,12 +1,14 @@
 -- What opening a log finds, and why it fails.
-use Rattle.std.specs.Prelude.{◌≡◌, ◌≢◌, ℕ, ◌<◌, ◌≤◌, IsTrue, List, length, slice_index, None, Result, Ok, Err, ⊤}
+use Rattle.std.specs.Prelude.{◌≡◌, ◌≢◌, ℕ, ◌+◌, ◌<◌, ◌≤◌, ◌⊎◌, IsTrue, List, [], ◌∷◌, length, slice_index, None, Result, Ok, Err, ⊤}
 use Rattle.causes.specs.Counts.{Rose}
+use Rattle.disk_core.specs.declared.fault.DiskFault.{DiskFault}
 use Rattle.disk_core.specs.Images.{Has}
 use Rattle.disk_core.specs.Views.{DiskView}
-use Rattle.disk_core.specs.Calls.{SameDisk}
+use Rattle.disk_core.specs.Calls.{SameDisk, ReadStep, Made, sync, claim}
 use Rattle.quorum_log.specs.declared.fault.OpenFault.{OpenFault}
 use Rattle.quorum_log.specs.declared.fault.OpenFault.TheVariants.{Failed, Fenced, Blank, BadImage, Memory}
 use Rattle.quorum_log.specs.Layout.{number_at, image_size}
+use Rattle.quorum_log.specs.Faults.{open_fault}
 use Rattle.quorum_log.specs.Checks.{first_bad, header_checks, HeaderFault, IsBadImage}
 
 -- Why a log wasn't opened under that token.
@@ -36,3 +38,33 @@ ReadFails v w (Fenced held) = ⊥
 ReadFails v w Blank = IsTrue v.tells → slice_index v.current.seen 0 ≡ 0
 ReadFails v w (BadImage place) = IsTrue v.tells → HeaderFault v.current.seen v.size (BadImage place)
 ReadFails v w Memory = Unit {0}
+
+-- What opening answers, without the log.
+abbrev pub open_answer : {A : Type 0} → Result A OpenFault → Result ⊤ OpenFault
+open_answer (Ok value) = Ok tt
+open_answer (Err fault) = Err fault
+
+-- The header is good, and a second read was made of what is behind it.
+pub record ReadsRest (header : List ℕ) (v w : DiskView) : Type 0 where
+  pub between : DiskView
+  pub first : ReadStep v 0 header (Ok tt) between
+  pub good : first_bad (header_checks header v.size) ≡ None
+  pub rest : List ℕ
+  pub whole : 64 + length rest ≡ image_size (number_at header 12 4)
+  pub answer : Result ⊤ DiskFault
+  pub second : ReadStep between 64 rest answer w
+
+-- The reads of `open`: one of the header, and a second one of the rest, unless the first one failed, the header
+-- is at fault, or memory ran out.
+abbrev pub ReadsImage : DiskView → Result ⊤ OpenFault → DiskView → Type 0
+ReadsImage v result w =
+    (header : List ℕ) × (length header ≡ 64) × (
+    ((fault : DiskFault) × ReadStep v 0 header (Err fault) w × (result ≡ Err (open_fault fault)))
+    ⊎ (((fault : OpenFault) × ReadStep v 0 header (Ok tt) w × (HeaderFault header v.size fault ⊎ (fault ≡ Memory)) × (result ≡ Err fault))
+    ⊎ ReadsRest header v w))
+
+-- The calls of `open`, none behind one that is refused: a claim and a sync, and then reads alone.
+abbrev pub OpenCalls : ℕ → DiskView → Result ⊤ OpenFault → DiskView → Type 0
+OpenCalls token v result w =
+    ((u : DiskView) × Made (claim token ∷ sync token ∷ []) v (Ok tt) u × ReadsImage u result w)
+    ⊎ ((fault : DiskFault) × Made (claim token ∷ sync token ∷ []) v (Err fault) w × (result ≡ Err (open_fault fault)))

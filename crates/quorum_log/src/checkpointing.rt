@@ -62,7 +62,12 @@ impl Log {
 
 /// Closes the half that begins there, where it is valid.
 #[tactic(auto, unfolding(disk_core::specs::Calls::Made))]
-fn close<D: Disk>(disk: &mut D, claim: u32, at: u64, is_valid: bool) -> Result<(), DiskFault>
+pub(crate) fn close<D: Disk>(
+    disk: &mut D,
+    claim: u32,
+    at: u64,
+    is_valid: bool,
+) -> Result<(), DiskFault>
     requires { at + 1 ≤ (D.view disk.old).size }
     ensures { Made (closing is_valid claim at) (D.view disk.old) result (D.view disk.new) }
 {

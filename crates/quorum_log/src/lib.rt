@@ -5,7 +5,9 @@ mod appending;
 mod checking;
 mod checkpointing;
 mod fault;
+mod formatting;
 pub mod found;
+mod laws;
 pub mod layout;
 pub mod log;
 mod opening;
@@ -15,6 +17,8 @@ mod tests;
 mod writing;
 
 pub use fault::{AppendFault, OpenFault};
+pub use formatting::format;
 pub use found::{Found, FoundRecord, FoundRecords};
+pub use laws::held_log_is_one;
 pub use layout::image_size;
 pub use log::Log;

@@ -1,9 +1,9 @@
-use Rattle.std.proofs.Common.{◌≡◌, ℕ, ◌+◌, ◌-◌, ◌<◌, ◌≤◌, [], ◌∷◌, ◌++◌, length, refl, sym, ap, ◌∙◌, subst, arith, List}
+use Rattle.std.proofs.Common.{◌≡◌, ℕ, ◌+◌, ◌-◌, ◌<◌, ◌≤◌, [], ◌∷◌, ◌++◌, length, refl, sym, ap, ◌∙◌, subst, arith, List, inl, inr}
 use Rattle.std.proofs.lemmas.Result.{err_from_is_err_and}
 use Rattle.disk_core.specs.Images.{IsImage}
 use Rattle.quorum_log.specs.Image.{list_at, end_of}
 use Rattle.quorum_log.proofs.Kept.{tail_within}
-use Rattle.quorum_log.proofs.Opened.{taken_err, taken_ok, refused_image, refused_halves, passes_read, found_in, opened}
+use Rattle.quorum_log.proofs.Opened.{reads_on, taken_err, taken_ok, refused_image, refused_halves, passes_read, found_in, opened}
 use Rattle.quorum_log.proofs.log.Log.open.Goals as goal
 
 pub returns-in_err-take_over-clause-fault : goal.returns-in_err-take_over-clause-fault
@@ -69,3 +69,17 @@ pub returns-clause-any_moment : goal.returns-clause-any_moment
 returns-clause-any_moment g c = λ told.
     let taken = taken_ok c.args.claim (g.D.Disk.view c.args.disk.now) (g.D.Disk.view c.take_over.new.disk) c.in_ok-take_over.field-0 c.in_ok-take_over.ensures in
     passes_read (IsImage (g.D.Disk.view c.args.disk.now).current) _ _ _ c.read_image.ensures.only_read (taken.passes told)
+
+pub returns-in_err-image-clause-calls : goal.returns-in_err-image-clause-calls
+returns-in_err-image-clause-calls g c =
+    let p = err_from_is_err_and c.from_residual-in_err-image.result c.from_residual-in_err-image.ensures.1 in
+    inl (g.D.Disk.view c.take_over.new.disk, c.in_ok-take_over.ensures, rw (p.1, p.2) c.in_err-image.ensures.calls)
+
+pub returns-in_err-found-clause-calls : goal.returns-in_err-found-clause-calls
+returns-in_err-found-clause-calls g c = inl (g.D.Disk.view c.take_over.new.disk, c.in_ok-take_over.ensures, reads_on _ _ _ c.in_ok-image.ensures.calls)
+
+pub returns-in_err-log-clause-calls : goal.returns-in_err-log-clause-calls
+returns-in_err-log-clause-calls g c = inl (g.D.Disk.view c.take_over.new.disk, c.in_ok-take_over.ensures, reads_on _ _ _ c.in_ok-image.ensures.calls)
+
+pub returns-clause-calls : goal.returns-clause-calls
+returns-clause-calls g c = inl (g.D.Disk.view c.take_over.new.disk, c.in_ok-take_over.ensures, c.in_ok-image.ensures.calls)

@@ -1,7 +1,7 @@
 use Rattle.std.specs.String.{string_bytes}
 use Rattle.std.specs.Prelude.{codes}
 use Rattle.clus_cli.proofs.WordLaws.{one_word}
-use Rattle.clus_cli.proofs.running.is_session.Goals as goal
+use Rattle.clus_cli.proofs.words.is_session.Goals as goal
 
 pub returns-in-len1 : goal.returns-in-len1
 returns-in-len1 c =

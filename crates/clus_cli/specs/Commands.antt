@@ -1,0 +1,43 @@
+-- The words of each command, and what `format` comes to.
+use Rattle.std.specs.Prelude.{◌≡◌, ℕ, ◌<◌, ◌≤◌, IsTrue, List, [], ◌∷◌, ◌++◌, codes, Result, Ok, Err, ⊤}
+use Rattle.std.specs.Fmt.{decimal}
+use Rattle.causes.specs.Counts.{Rose}
+use Rattle.wire_fields.specs.declared.endian.Endian.TheVariants.{Little}
+use Rattle.wire_fields.specs.Numbers.{num}
+use Rattle.disk_core.specs.Images.{EachImage}
+use Rattle.disk_core.specs.Views.{DiskView, Passes}
+use Rattle.quorum_log.specs.Image.{Holds}
+use Rattle.quorum_log.specs.Formats.{empty_log, IsInFormat}
+use Rattle.clus_cli.specs.declared.status.Status.{Status}
+use Rattle.clus_cli.specs.declared.status.Status.TheVariants as statuses
+
+abbrev pub AsksSession : List (List ℕ) → Type 0
+AsksSession words = words ≡ codes "session" ∷ []
+
+-- The greatest sizes that a registry may be given, in bytes.
+abbrev pub IsCap : ℕ → Type 0
+IsCap cap = (4096 ≤ cap) × (cap ≤ 16_777_216)
+
+-- The number is written in decimal, without a sign or a leading zero.
+abbrev pub AsksFormat : List (List ℕ) → ℕ → Type 0
+AsksFormat words cap = (words ≡ codes "format" ∷ decimal cap ∷ []) × IsCap cap
+
+abbrev pub AsksSomeFormat : List (List ℕ) → Type 0
+AsksSomeFormat words = (cap : ℕ) × AsksFormat words cap
+
+-- The encoding of the empty registry: the creation number of its root, and how many values and subkeys it has.
+unfoldable pub empty_registry : List ℕ
+empty_registry = num Little 8 0 ++ (num Little 4 0 ++ num Little 4 0)
+
+-- How `format` ends, on a disk whose fencing token it makes 1.
+abbrev pub FormatEnds : DiskView → Status → DiskView → Type 0
+FormatEnds v statuses.Done w = (v.current.held ≤ 1) × (w.current.held ≡ 1)
+FormatEnds v statuses.DiskFault w = (v.current.held ≤ 1) × Rose v.faults w.faults
+FormatEnds v (statuses.Fenced held) w = (1 < v.current.held) × (held ≡ v.current.held)
+FormatEnds v _ w = ⊥
+
+pub record FormatRuns (cap : ℕ) (v : DiskView) (status : Status) (w : DiskView) : Type 0 where
+  pub ends : FormatEnds v status w
+  -- after Done each image that a crash may leave holds the empty log
+  pub formatted : IsTrue v.tells → status ≡ statuses.Done → EachImage (λ image. Holds image (empty_log cap empty_registry)) w.current
+  pub any_moment : IsTrue v.tells → Passes (IsInFormat v.current cap empty_registry) v w
