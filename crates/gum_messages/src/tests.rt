@@ -1,10 +1,8 @@
 //! Which views there are, and how messages are encoded, against cases set by hand.
 
 use crate::{Body, Member, Message, MessageFault, View, decode, encode};
-use clus_names::Path;
 use std::alloc::{AllocError, Global};
 use std::test::Fail;
-use update_records::{Record, Update, UpdateId};
 use wire_fields::{Endian, Octets, Put};
 
 /// Record 1 of the order: node 1 in incarnation 1 creates the key `A` below the root.
@@ -12,6 +10,9 @@ const CREATED: [u8; 49] = [
     1, 0, 0, 0, 0, 0, 0, 0, 0, 0, 0, 0, 0, 0, 0, 0, 1, 0, 1, 0, 0, 0, 0, 0, 0, 0, 1, 0, 0, 0, 0, 0,
     0, 0, 1, 0, 0, 0, 0, 0, 0, 0, 0, 0, 0, 1, 0, 0x41, 0,
 ];
+
+/// Its update.
+const CREATES: [u8; 15] = [1, 0, 0, 0, 0, 0, 0, 0, 0, 0, 0, 1, 0, 0x41, 0];
 
 /// What stands before the record of an Offer: one record, the least cap, and 49 bytes.
 const OFFERED: [u8; 16] = [1, 0, 0, 0, 0, 0, 0, 0, 0, 16, 0, 0, 49, 0, 0, 0];
@@ -69,6 +70,7 @@ fn sent(alloc: Global, kind: u8, front: &[u8], back: &[u8]) -> Result<Vec<u8>, A
     Ok(put.into_bytes())
 }
 
+/// Reads a message, copies it and writes it.
 fn again(alloc: Global, bytes: &[u8]) -> Result<Vec<u8>, Fail> {
     let message = decode(alloc, bytes)?.copy(alloc)?;
     Ok(encode(alloc, &message)?)
@@ -77,67 +79,30 @@ fn again(alloc: Global, bytes: &[u8]) -> Result<Vec<u8>, Fail> {
 #[test]
 fn messages_of_each_kind(rt: HostRuntime) -> Result<(), Fail> {
     let alloc = rt.alloc();
-    for (kind, front, back) in [
-        (1, SEVEN.as_slice(), &CREATED[34..]),
-        (2, CREATED.as_slice(), [].as_slice()),
-        (3, CREATED.as_slice(), [].as_slice()),
-        (4, SEVEN.as_slice(), [].as_slice()),
-        (5, SEVEN.as_slice(), [].as_slice()),
-        (6, OFFERED.as_slice(), CREATED.as_slice()),
-        (6, &OFFERED[..12], [0; 4].as_slice()),
-        (7, &SEVEN[..4], [].as_slice()),
-        (
-            8,
-            [9, 0, 0, 0, 4, 0, 0, 0, 2, 0, 0, 0].as_slice(),
-            [6, 5].as_slice(),
-        ),
-        (8, [0; 12].as_slice(), [].as_slice()),
-        (9, [].as_slice(), [].as_slice()),
-        (10, [].as_slice(), [].as_slice()),
-    ] {
+    let rows: [(u8, &[u8], &[u8]); 11] = [
+        (1, &SEVEN, &CREATES),
+        (2, &CREATED, &[]),
+        (3, &CREATED, &[]),
+        (4, &SEVEN, &[]),
+        (5, &SEVEN, &[]),
+        (6, &OFFERED, &CREATED),
+        (6, &[1, 0, 0, 0, 0, 0, 0, 0, 0, 16, 0, 0], &[0, 0, 0, 0]),
+        (7, &[7, 0, 0, 0], &[]),
+        (8, &[9, 0, 0, 0, 4, 0, 0, 0, 2, 0, 0, 0], &[6, 5]),
+        (9, &[], &[]),
+        (10, &[], &[]),
+    ];
+    for (kind, front, back) in rows {
         let bytes = sent(alloc, kind, front, back)?;
         assert_eq!(rt; again(alloc, &bytes)?.as_slice(), bytes.as_slice());
     }
     Ok(())
 }
 
-fn created(alloc: Global) -> Result<Record, Fail> {
-    let subkey = Path::parse(alloc, &[0x41])
-        .ok()
-        .ok_or("a part of one unit")?;
-    Ok(Record {
-        place: 1,
-        stamp: 0,
-        id: UpdateId {
-            node: 1,
-            inc: 1,
-            req: 1,
-        },
-        update: Update::Create {
-            key: Path::root(alloc),
-            birth: 0,
-            subkey,
-        },
-    })
-}
-
 #[test]
-fn values_as_bytes(rt: HostRuntime) -> Result<(), Fail> {
+fn a_value_as_bytes(rt: HostRuntime) -> Result<(), Fail> {
     let alloc = rt.alloc();
-    let offer = Message {
-        view: 1,
-        from: 1,
-        to: 2,
-        body: Body::Offer {
-            count: 1,
-            cap: 4096,
-            last: Some(created(alloc)?),
-        },
-    };
-    assert_eq!(rt;
-        encode(alloc, &offer)?.as_slice(),
-        sent(alloc, 6, &OFFERED, &CREATED)?.as_slice()
-    );
+    let bytes = Octets::new(vec![in alloc; 6, 5]?);
     let piece = Message {
         view: 1,
         from: 1,
@@ -145,12 +110,15 @@ fn values_as_bytes(rt: HostRuntime) -> Result<(), Fail> {
         body: Body::Piece {
             total: 9,
             offset: 4,
-            bytes: Octets::new(vec![in alloc; 6, 5]?),
+            bytes,
         },
     };
     assert_eq!(rt;
         encode(alloc, &piece)?.as_slice(),
-        sent(alloc, 8, &[9, 0, 0, 0, 4, 0, 0, 0, 2, 0, 0, 0], &[6, 5])?.as_slice()
+        [
+            8, 1, 0, 0, 0, 1, 0, 2, 0, 9, 0, 0, 0, 4, 0, 0, 0, 2, 0, 0, 0, 6, 5
+        ]
+        .as_slice()
     );
     Ok(())
 }
@@ -158,25 +126,22 @@ fn values_as_bytes(rt: HostRuntime) -> Result<(), Fail> {
 #[test]
 fn malformed_heads(rt: HostRuntime) -> Result<(), Fail> {
     let alloc = rt.alloc();
-    for (bytes, place) in [
-        ([].as_slice(), 0),
-        ([12, 1, 0, 0, 0, 1, 0, 2, 0].as_slice(), 0),
-        ([11, 1, 0, 0, 0, 1, 0, 2, 0].as_slice(), 0),
-        ([0, 1, 0, 0, 0, 1, 0, 2, 0].as_slice(), 0),
-        ([9, 0, 0, 0, 0, 1, 0, 2, 0].as_slice(), 1),
-        ([9, 1, 0, 0].as_slice(), 1),
-        ([9, 1, 0, 0, 0, 0, 0, 2, 0].as_slice(), 5),
-        ([9, 1, 0, 0, 0, 17, 0, 2, 0].as_slice(), 5),
-        ([9, 1, 0, 0, 0, 1, 0, 0, 0].as_slice(), 7),
-        ([9, 1, 0, 0, 0, 1, 0, 17, 0].as_slice(), 7),
-        ([9, 1, 0, 0, 0, 1, 0, 2].as_slice(), 7),
-        ([9, 1, 0, 0, 0, 1, 0, 2, 0, 0].as_slice(), 9),
-        ([10, 1, 0, 0, 0, 1, 0, 2, 0, 9].as_slice(), 9),
-    ] {
-        assert_eq!(rt;
-            decode(alloc, bytes).err(),
-            Some(MessageFault::Bad { place })
-        );
+    let rows: [(&[u8], usize); 11] = [
+        (&[], 0),
+        (&[12, 1, 0, 0, 0, 1, 0, 2, 0], 0),
+        (&[11, 1, 0, 0, 0, 1, 0, 2, 0], 0),
+        (&[0, 1, 0, 0, 0, 1, 0, 2, 0], 0),
+        (&[9, 0, 0, 0, 0, 1, 0, 2, 0], 1),
+        (&[9, 1, 0, 0], 1),
+        (&[9, 1, 0, 0, 0, 0, 0, 2, 0], 5),
+        (&[9, 1, 0, 0, 0, 17, 0, 2, 0], 5),
+        (&[9, 1, 0, 0, 0, 1, 0, 17, 0], 7),
+        (&[9, 1, 0, 0, 0, 1, 0, 2], 7),
+        (&[9, 1, 0, 0, 0, 1, 0, 2, 0, 0], 9),
+    ];
+    for (bytes, place) in rows {
+        let found = decode(alloc, bytes).err();
+        assert_eq!(rt; found, Some(MessageFault::Bad { place }));
     }
     Ok(())
 }
@@ -185,38 +150,45 @@ fn malformed_heads(rt: HostRuntime) -> Result<(), Fail> {
 #[test]
 fn malformed_bodies(rt: HostRuntime) -> Result<(), Fail> {
     let alloc = rt.alloc();
-    for (kind, front, back, place) in [
-        (1, &SEVEN[..7], [].as_slice(), 9),
-        (1, SEVEN.as_slice(), [0].as_slice(), 17),
-        (1, SEVEN.as_slice(), [6].as_slice(), 17),
-        (1, SEVEN.as_slice(), &CREATED[34..48], 30),
-        (2, [].as_slice(), [].as_slice(), 9),
-        (2, [0; 8].as_slice(), &CREATED[8..], 9),
-        (2, &CREATED[..16], [17, 0].as_slice(), 25),
-        (2, CREATED.as_slice(), [0].as_slice(), 58),
-        (3, &CREATED[..26], [0; 8].as_slice(), 35),
-        (4, &SEVEN[1..], [].as_slice(), 9),
-        (4, SEVEN.as_slice(), [0].as_slice(), 17),
-        (5, &SEVEN[1..], [].as_slice(), 9),
-        (6, [0, 0, 0, 0, 0, 0, 0, 128].as_slice(), &OFFERED[8..], 9),
-        (6, SEVEN.as_slice(), [255, 15, 0, 0].as_slice(), 17),
-        (6, SEVEN.as_slice(), [1, 0, 0, 1].as_slice(), 17),
-        (6, &OFFERED[..12], [1, 224, 0, 0].as_slice(), 21),
-        (6, &OFFERED[..12], [0, 0, 0, 0, 0].as_slice(), 25),
-        (6, OFFERED.as_slice(), &CREATED[..48], 72),
-        (6, OFFERED.as_slice(), [].as_slice(), 25),
-        (7, &SEVEN[..3], [].as_slice(), 9),
-        (7, SEVEN.as_slice(), [].as_slice(), 13),
-        (8, &SEVEN[..3], [].as_slice(), 9),
-        (8, SEVEN.as_slice(), [2, 0, 0].as_slice(), 17),
-        (8, SEVEN.as_slice(), [2, 0, 0, 0, 6].as_slice(), 21),
-        (8, SEVEN.as_slice(), [2, 0, 0, 0, 6, 5, 4].as_slice(), 23),
-    ] {
+    let rows: [(u8, &[u8], &[u8], usize); 18] = [
+        (1, &[7, 0, 0, 0, 0, 0, 0], &[], 9),
+        (1, &SEVEN, &[6], 17),
+        (
+            1,
+            &SEVEN,
+            &[1, 0, 0, 0, 0, 0, 0, 0, 0, 0, 0, 1, 0, 0x41],
+            30,
+        ),
+        (2, &[0, 0, 0, 0, 0, 0, 0, 0], &[], 9),
+        (2, &CREATED, &[0], 58),
+        (
+            3,
+            &[7, 0, 0, 0, 0, 0, 0, 0],
+            &[0, 0, 0, 0, 0, 0, 0, 0, 17, 0],
+            25,
+        ),
+        (4, &SEVEN, &[0], 17),
+        (5, &[7, 0, 0, 0, 0, 0, 0], &[], 9),
+        (
+            6,
+            &[0, 0, 0, 0, 0, 0, 0, 128],
+            &[0, 16, 0, 0, 0, 0, 0, 0],
+            9,
+        ),
+        (6, &SEVEN, &[255, 15, 0, 0], 17),
+        (6, &SEVEN, &[1, 0, 0, 1], 17),
+        (6, &SEVEN, &[0, 16, 0, 0, 1, 224, 0, 0], 21),
+        (6, &SEVEN, &[0, 16, 0, 0, 0, 0, 0, 0, 0], 25),
+        (6, &OFFERED, &[1, 0, 0, 0, 0, 0, 0], 25),
+        (7, &SEVEN, &[], 13),
+        (8, &SEVEN, &[2, 0, 0], 17),
+        (8, &SEVEN, &[2, 0, 0, 0, 6], 21),
+        (8, &SEVEN, &[2, 0, 0, 0, 6, 5, 4], 23),
+    ];
+    for (kind, front, back, place) in rows {
         let bytes = sent(alloc, kind, front, back)?;
-        assert_eq!(rt;
-            decode(alloc, &bytes).err(),
-            Some(MessageFault::Bad { place })
-        );
+        let found = decode(alloc, &bytes).err();
+        assert_eq!(rt; found, Some(MessageFault::Bad { place }));
     }
     Ok(())
 }
@@ -225,21 +197,19 @@ fn malformed_bodies(rt: HostRuntime) -> Result<(), Fail> {
 #[test]
 fn records_of_other_lengths(rt: HostRuntime) -> Result<(), Fail> {
     let alloc = rt.alloc();
-    for (count, back, place) in [
-        (10, [].as_slice(), 33),
-        (48, [].as_slice(), 72),
-        (50, [].as_slice(), 74),
-        (50, [7].as_slice(), 74),
-        (49, [7].as_slice(), 74),
-    ] {
+    let rows: [(u8, &[u8], usize); 4] = [
+        (48, &[], 72),
+        (50, &[], 74),
+        (50, &[7], 74),
+        (49, &[7], 74),
+    ];
+    for (count, back, place) in rows {
         let mut offered = OFFERED;
         offered[12] = count;
         let mut bytes = sent(alloc, 6, &offered, &CREATED)?;
         bytes.extend_from_slice(back)?;
-        assert_eq!(rt;
-            decode(alloc, &bytes).err(),
-            Some(MessageFault::Bad { place })
-        );
+        let found = decode(alloc, &bytes).err();
+        assert_eq!(rt; found, Some(MessageFault::Bad { place }));
     }
     Ok(())
 }
