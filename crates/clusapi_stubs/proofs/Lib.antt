@@ -1,3 +1,4 @@
 pub mod InputLaws
 pub mod Sizes
 pub mod Taking
+pub mod TextLaws

@@ -12,8 +12,9 @@ use Rattle.clusapi_stubs.specs.declared.fault.InFault.{InFault}
 use Rattle.clusapi_stubs.specs.declared.fault.InFault.TheVariants.{Memory, Ndr, Opnum}
 use Rattle.clusapi_stubs.specs.declared.input.In.{In}
 use Rattle.clusapi_stubs.specs.Grammar.{GivesInput, InputBad, IsInput, Spells, TakesInput, sized, start, values_in}
-use Rattle.clusapi_stubs.specs.Inputs.{kinds_of, parameters, size_fits}
+use Rattle.clusapi_stubs.specs.Inputs.{LackZero, kinds_of, parameters, size_fits}
 use Rattle.clusapi_stubs.specs.Kinds.{Kind, values_at}
+use Rattle.clusapi_stubs.proofs.TextLaws.{lack_zero}
 use Rattle.clusapi_stubs.proofs.InputLaws.{kind_of, kinds_are, one_input, values_only, values_read}
 
 abbrev Read : Type 0
@@ -82,6 +83,14 @@ fault_by false opnum e stub input now size is = inr (record { input = input; beh
 only_by : (fits : Bool) (input other : In) (place : ℕ) → size_fits input ≡ fits → input ≡ other → size_fits other ≡ true → GivesInput (sized_by fits input place) other
 only_by true input other place size is fits = is
 only_by false input other place size is fits = absurd (cc (size, is, fits))
+
+texts_by : (fits : Bool) (input : In) (place : ℕ) → LackZero input → IfOk (sized_by fits input place) LackZero
+texts_by true input place lack = lack
+texts_by false input place lack = tt
+
+pub texts : (opnum : ℕ) (e : Endian) (stub : List ℕ) (input : In) (now : Reading) → IsBytes stub → TakesInput opnum (Ok input) (start e stub) now → IfOk (sized input now.place) LackZero
+texts opnum e stub input now h took =
+    texts_by (size_fits input) input (now.place - 4) (lack_zero input (start e stub) now (spelled opnum e stub input now h took).spelled)
 
 pub found : (opnum : ℕ) (e : Endian) (stub : List ℕ) (input : In) (now : Reading) → IsBytes stub → TakesInput opnum (Ok input) (start e stub) now
     → IfOk (sized input now.place) (λ given. IsInput opnum e stub given)

@@ -1,6 +1,7 @@
 -- The parameters of each method, in the order in which they are sent.
 use Rattle.std.specs.Prelude.{ℕ, ◌==◌, nat_le, Bool, true, List, [], ◌∷◌, length, Option}
 use Rattle.std.specs.Map.{lookup}
+use Rattle.clus_names.specs.Limits.{LacksZero}
 use Rattle.ndr_values.specs.declared.fault.ReadFault.{ReadFault}
 use Rattle.ndr_values.specs.declared.fault.ReadFault.TheVariants as reads
 use Rattle.ndr_values.specs.Spelling.{Bytes, Handle, Number, Text, Value}
@@ -48,6 +49,16 @@ size_fits (SetValue handle name kind bytes cb_data) = length bytes == cb_data
 size_fits (QueryValue handle name cb_data) = nat_le cb_data 1048576
 size_fits (EnumValue handle index cb_data) = nat_le cb_data 1048576
 size_fits _ = true
+
+-- No text has a unit 0, which would have ended it.
+abbrev pub LackZero : In → Type 0
+LackZero (CreateKey handle subkey options sam security) = LacksZero subkey
+LackZero (OpenKey handle subkey sam) = LacksZero subkey
+LackZero (SetValue handle name kind bytes cb_data) = LacksZero name
+LackZero (DeleteValue handle name) = LacksZero name
+LackZero (QueryValue handle name cb_data) = LacksZero name
+LackZero (DeleteKey handle subkey) = LacksZero subkey
+LackZero _ = Unit {0}
 
 -- The kinds of the parameters, by operation number.
 abbrev pub methods : List (ℕ × List Kind)

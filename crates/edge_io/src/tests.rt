@@ -1,5 +1,6 @@
 use super::*;
-use std::io::Cursor;
+use std::io::{Cursor, Read, Write};
+use std::net::{Ipv4Addr, SocketAddr, TcpStream};
 use std::test::Fail;
 
 #[test]
@@ -119,5 +120,67 @@ fn std_readers_and_writers_are_sources_and_sinks(rt: HostRuntime) -> Result<(), 
         Err(Failed)
     );
     assert_eq!(rt; room.as_slice(), b"ab".as_slice());
+    Ok(())
+}
+
+#[test]
+fn a_door_in_memory_hands_out_connections_and_keeps_what_they_were_sent(
+    rt: HostRuntime,
+) -> Result<(), Fail> {
+    let alloc = rt.alloc();
+    let mut inputs = Vec::new(alloc);
+    inputs.push(b"abc".to_vec(alloc)?)?;
+    inputs.push(b"d".to_vec(alloc)?)?;
+    let mut door = ScriptDoor::new(alloc, inputs, [1, 4, 8].to_vec(alloc)?);
+    let mut room = [b'-'; 2];
+    assert_eq!(rt; door.accept(), Err(Failed));
+    assert_eq!(rt; door.accept(), Ok(true));
+    assert_eq!(rt; door.read(&mut room), Ok(2));
+    assert_eq!(rt; door.read(&mut room), Err(Failed));
+    assert_eq!(rt; door.read(&mut room), Ok(1));
+    assert_eq!(rt; &room, b"cb");
+    assert_eq!(rt; door.write(b"one"), Ok(3));
+    assert_eq!(rt; door.accept(), Ok(true));
+    assert_eq!(rt; door.write(b"lost"), Err(Failed));
+    assert_eq!(rt; door.write(b"two"), Ok(3));
+    door.hang_up();
+    assert_eq!(rt; door.read(&mut room), Err(Failed));
+    assert_eq!(rt; door.accept(), Ok(false));
+    let mut sent = Vec::new(alloc);
+    for visit in door.ended() {
+        sent.extend_from_slice(visit.written())?;
+    }
+    assert_eq!(rt; sent.as_slice(), b"onetwo".as_slice());
+    Ok(())
+}
+
+#[test]
+fn a_tcp_door_hands_out_its_connections(rt: HostRuntime) -> Result<(), Fail> {
+    let address = String::from_str(rt.alloc(), "127.0.0.1:0")?;
+    let mut door = TcpDoor::at(&rt, address, 1);
+    assert_eq!(rt; door.listen(), Ok(()));
+    let port = door.port().ok_or("a port")?;
+    let mut client = TcpStream::connect(&rt, SocketAddr::from((Ipv4Addr::LOCALHOST, port)))?;
+    assert_eq!(rt; door.accept(), Ok(true));
+    let mut room = [b'-'; 4];
+    client.write_all(b"abc")?;
+    assert_eq!(rt; door.read(&mut room), Ok(3));
+    assert_eq!(rt; &room, b"abc-");
+    assert_eq!(rt; door.write(b"de"), Ok(2));
+    assert_eq!(rt; client.read(&mut room)?, 2);
+    assert_eq!(rt; &room, b"dec-");
+    door.hang_up();
+    assert_eq!(rt; client.read(&mut room)?, 0);
+    assert_eq!(rt; door.read(&mut room), Err(Failed));
+    assert_eq!(rt; door.accept(), Ok(false));
+    Ok(())
+}
+
+#[test]
+fn a_tcp_door_without_an_address_fails(rt: HostRuntime) -> Result<(), Fail> {
+    let mut door = TcpDoor::at(&rt, String::new(rt.alloc()), 1);
+    assert_eq!(rt; door.accept(), Err(Failed));
+    let mut none = TcpDoor::at(&rt, String::new(rt.alloc()), 0);
+    assert_eq!(rt; none.accept(), Ok(false));
     Ok(())
 }

@@ -1,7 +1,7 @@
 use Rattle.std.proofs.Common.{arith}
 use Rattle.std.proofs.lemmas.Result.{err_from_is_err_and}
 use Rattle.wire_fields.specs.Numbers.{IsBytes}
-use Rattle.clusapi_stubs.proofs.Sizes.{fault, found, only, refused}
+use Rattle.clusapi_stubs.proofs.Sizes.{fault, found, only, refused, texts}
 use Rattle.clusapi_stubs.proofs.reading.read_in.Goals as goal
 
 pub returns-in_err-input-clause-only : goal.returns-in_err-input-clause-only
@@ -22,3 +22,8 @@ pub returns-clause-fault : goal.returns-clause-fault
 returns-clause-fault c =
     let bytes : IsBytes c.args.stub.now = λ i. omega (arith, c.type_inv.stub i) in
     rw (c.sized.ensures, c.place.ensures) (fault c.args.opnum c.args.endian c.args.stub.now c.in_ok-input.input c.input.new.from bytes (rw (← c.new-from.ensures) c.in_ok-input.ensures))
+
+pub returns-clause-texts : goal.returns-clause-texts
+returns-clause-texts c =
+    let bytes : IsBytes c.args.stub.now = λ i. omega (arith, c.type_inv.stub i) in
+    rw (c.sized.ensures, c.place.ensures) (texts c.args.opnum c.args.endian c.args.stub.now c.in_ok-input.input c.input.new.from bytes (rw (← c.new-from.ensures) c.in_ok-input.ensures))
