@@ -17,10 +17,10 @@ use Rattle.cluster_rules.specs.Packets.{Packet, Granted}
 use Rattle.cluster_rules.specs.Nodes.{NodeState, Replica, done_of, packet, tells}
 use Rattle.cluster_rules.specs.Updates.{has_logged}
 use Rattle.cluster_rules.specs.Worlds.{World, absorb, acked, with_log}
-use Rattle.cluster_laws.proofs.Inv.{AckOk, Asked, Invariant, LoggedIn, MemberOk, NodeOk, NotBefore, Owner, OwnerOk, Pooled, Reached, Stands}
+use Rattle.cluster_laws.proofs.Inv.{AckOk, Asked, Invariant, LogOk, LoggedIn, MemberOk, NodeOk, NotBefore, Owner, OwnerOk, Pooled, Reached, Requested, Stands}
 use Rattle.cluster_laws.proofs.Stable.{AskedOnly, Ext, Grown, grown_refl, pooled}
 use Rattle.cluster_laws.proofs.Moves.{at_self, none_acked, one_told, put_cases, self_node, slice_get_append, slice_get_front}
-use Rattle.cluster_laws.proofs.Applying.{done_at, done_next, eq_true, locker_is, locker_not, next_last, next_registry, state_next}
+use Rattle.cluster_laws.proofs.Applying.{done_at, next_outcome, done_next, eq_true, locker_is, locker_not, next_last, next_registry, state_next}
 use Rattle.std.proofs.lemmas.List.{length-set}
 use Rattle.gum_core.proofs.Logging.{greatest_kept, greatest_logged}
 use Rattle.cluster_laws.proofs.Growth.{Grows, NewOk, ack_grows, fresh_or_old, length_snoc, log_grows, longer_plus, new_view, node_grows, plus}
@@ -57,6 +57,7 @@ module _ {M : Machine} where
     pub member : 0 < r.id.inc
     pub next : greatest_of x.core r.id.node < r.id.req
     pub asked : Asked w r.id.node r.id.inc r.id.req
+    pub requested : Requested w r.id.node r.id.inc r.id.req r.update
     pub count : ℕ
     pub counted : w.log.count x.join.view.number ≡ Some count
     pub new : NotBefore w.log r.id.node r.id.inc r.id.req count
@@ -69,6 +70,7 @@ module _ {M : Machine} where
     log = longer_plus M w.log r x.join.view.number;
     chain = λ v u e. e;
     starts = λ m. omega arith;
+    requests = λ m i q u e. e;
     nodes = λ m z e b. ⊎_elim
         (λ (c : (m ≡ n) × (Some (has_logged x r) ≡ Some z)). (x, ap w.nodes c.0 ∙ at, let q : has_logged x r ≡ z = cc in subst (λ (t : NodeState M). Grown x t) q (logged_grown x s r st)))
         (λ (c : (m ≢ n) × (w.nodes m ≡ Some z)). (z, c.1, grown_refl z))
@@ -85,6 +87,9 @@ module _ {M : Machine} where
         place = omega (arith, f.place, k.all_done, done_at x s f.state);
         view = (h.view (h.ready_view f.owner.ready)).0;
         told = λ a p e. slice_get_front w.acks [] a p e;
+        near = λ m z zt wt id.
+            let mem : inc_of x.join.view.members m ≡ z.join.inc = ap (inc_of x.join.view.members) (sym id.node) ∙ sym f.inc ∙ id.inc in
+            (k.members f.open_ m z zt mem).free f.free;
         alone = λ m z a zt wt st id i.
             let o = (k.members f.open_ m z zt i).heads a wt st id in
             absurd (let q : ◌≡◌ {A = Option Lock} None (Some o.0) = sym f.free ∙ o.1 in cc);
@@ -98,6 +103,7 @@ module _ {M : Machine} where
       record {
         positive = omega (arith, f.next);
         asked = f.asked;
+        requested = f.requested;
         new = record {
           none = λ a at id. absurd (⊎_elim
               (λ (c : f.count < a.place).
@@ -128,6 +134,7 @@ module _ {M : Machine} where
       let d' : done_of y ≡ s.done + 1 = done_next x r s f.state in
       let len : length w'.log.order ≡ length w.log.order + 1 = length_snoc w.log.order r in
       let here : at_place w'.log.order (s.done + 1) ≡ Some r = ap (at_place w'.log.order) (sym f.place ∙ gs.place) ∙ place_new w.log.order r in
+      let lo' : LogOk w' = log_grows w r x.join.view w'.nodes w'.pool w'.acks j.log gs (append_new w n x s r j f) in
       let here2 : at_place w'.log.order (done_of y) ≡ Some r = ap (at_place w'.log.order) d' ∙ here in
       let rd : joining.is_ready x.join ≡ true = f.owner.ready in
       record {
@@ -150,6 +157,8 @@ module _ {M : Machine} where
         waiting = g.waiting;
         waiting_doubt = g.waiting_doubt;
         behind = g.behind;
+        queued = g.queued;
+        all_requests = g.all_requests;
         finished = g.finished;
         entries = length-set x.core.greatest (index_of x.core.members r.id.node) r.id.req ∙ h.entries;
         within = omega (arith, d', len, k.all_done, d);
@@ -164,6 +173,11 @@ module _ {M : Machine} where
             subst (λ (l : Lock). (joining.is_open x.join ≡ true) × (joining.locks x.join ≡ true) × (a : Entry) × (at_place w'.log.order (done_of y) ≡ Some a) × LoggedIn w'.log a x.join.view.number × (a.id.node ≡ l.node) × (a.id.inc ≡ inc_of x.join.view.members l.node) × (a.id.req ≡ l.req) × (a.place ≡ l.place)) q
             (f.open_, f.owner.locker, r, here2, record { at = ap (at_place w'.log.order) f.place ∙ here; view = new_view w.log r x.join.view.number r.place gs.place }, refl, f.inc, refl, refl);
         settled = λ p e. let t = g.settled p e in (t.0, t.1, t.2, t.3, omega (arith, t.4, d, d'), t.5);
+        near_head = λ a wt sa id. omega (arith, g.near_head a wt sa id, d, d');
+        near_doubt = λ a wt mb id. absurd (cc);
+        full_state = λ q. state_next x r s f.state;
+        pulling = λ o e. absurd (locker_not (joining.is_ready x.join) rd (h.pull o e).0);
+        outcome = λ a q sa id le. next_outcome w' n x r s a g lo'.ids (record { at = ap (at_place w'.log.order) f.place ∙ here }) f.state f.place q sa id (omega (arith, le, d'));
       }
 
   -- what the owner knows of a member, behind one record more

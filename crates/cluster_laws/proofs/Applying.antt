@@ -1,24 +1,26 @@
 -- Records are applied: folds, and the rule for an Apply.
-use Rattle.std.proofs.Common.{◌≡◌, ◌≢◌, ℕ, zero, suc, ◌+◌, ◌<◌, ◌≤◌, Bool, true, false, not, ◌&&◌, List, [], ◌∷◌, ◌++◌, length, take, Option, Some, nat_eq, nat_lt, slice_get, refl, sym, ap, ◌∙◌, subst, add-one, arith}
+use Rattle.std.proofs.Common.{◌≡◌, ◌≢◌, ⊎_elim, ℕ, zero, suc, ◌+◌, ◌-◌, ◌<◌, ◌≤◌, Bool, true, false, not, ◌&&◌, List, [], ◌∷◌, ◌++◌, length, take, Option, Some, nat_eq, nat_lt, if◌then◌else◌, slice_get, refl, sym, ap, ◌∙◌, subst, add-one, arith}
+use Rattle.std.proofs.lemmas.Bool.{cases_lt}
 use Rattle.gum_messages.specs.declared.member.Member.{Member}
 use Rattle.gum_messages.specs.Members.{inc_of, is_locker, locker_of}
 use Rattle.gum_messages.specs.Places.{at_place}
 use Rattle.gum_messages.proofs.Branches.{if_cases, option_cases}
 use Rattle.gum_messages.proofs.Placing.{place_within}
 use Rattle.update_records.specs.Entry.{Entry}
+use Rattle.update_records.specs.declared.update.Update.{Update}
 use Rattle.view_reconcile.specs.Joining.{ReconcileState}
 use Rattle.view_reconcile.specs.Joining as joining
-use Rattle.cluster_rules.specs.Machines.{Machine, registry_at, replay}
+use Rattle.cluster_rules.specs.Machines.{Machine, IsMachine, outcome_at, registry_at, replay}
 use Rattle.cluster_rules.specs.Packets.{Packet, Applied}
-use Rattle.cluster_rules.specs.Nodes.{Effect, NodeState, Out, Replica, Send, done_of, has_state, packet}
-use Rattle.cluster_rules.specs.Updates.{applied, applies, on_apply, replica_after}
+use Rattle.cluster_rules.specs.Nodes.{Effect, NodeState, Out, Replica, Send, done_of, has_state, is_head, packet}
+use Rattle.cluster_rules.specs.Updates.{applied, applies, on_apply, outcome_after, replica_after}
 use Rattle.cluster_rules.specs.Worlds.{World, absorb}
 use Rattle.gum_core.proofs.Cases.{applying_cases}
-use Rattle.cluster_laws.proofs.Inv.{AckOk, Invariant, LoggedIn, MemberOk, NodeOk, Pooled}
+use Rattle.cluster_laws.proofs.Inv.{AckOk, Has, Invariant, LoggedIn, MemberOk, NodeOk, Pooled, Stands, at_head}
 use Rattle.cluster_laws.proofs.Stable.{Grown}
 use Rattle.cluster_laws.proofs.Moves.{move_keeps, moved, node_in, none_acked, one_told, reached_self, stay_keeps, stay_sends, told}
 
--- GUARDS
+-- Guards
 pub and_true : (a b : Bool) → (a && b) ≡ true → (a ≡ true) × (b ≡ true)
 and_true true b e = (refl, e)
 and_true false b e = cc
@@ -45,7 +47,11 @@ pub locker_not : (b : Bool) → b ≡ true → b ≡ false → ⊥
 locker_not true e f = cc
 locker_not false e f = cc
 
--- FOLDS
+pub length_some : {A : Type 0} (l : List A) → 0 < length l → l ≢ []
+length_some [] h = absurd (omega arith)
+length_some (x ∷ xs) h = λ e. cc
+
+-- Folds
 module _ (M : Machine) where
   pub replay_snoc : (l : List Entry) (r : Entry) (g : M.Registry) → replay M (l ++ r ∷ []) g ≡ (M.apply r (replay M l g)).0
   replay_snoc [] r g = refl
@@ -65,6 +71,28 @@ module _ {M : Machine} where
 
   pub state_of : (x : NodeState M) → has_state x ≡ true → (s : Replica M) × (x.replica ≡ Some s)
   state_of x h = option_cases (λ (b : Bool). b ≡ true → (s : Replica M) × (x.replica ≡ Some s)) x.replica false (λ r. true) (λ a e. absurd (let z : ◌≡◌ {A = Bool} false true = e in cc)) (λ r a e. (r, a)) h
+
+  pub is_head_has : (e : Entry) (x : NodeState M) → is_head e x ≡ true → Has e x.join.node x.join.inc (at_head x) × (x.core.queue ≢ [])
+  is_head_has e x h =
+      let a = and_true (nat_lt 0 (length x.core.queue)) (nat_eq e.id.node x.join.node && (nat_eq e.id.inc x.join.inc && nat_eq e.id.req (x.core.passed + 1))) h in
+      let b = and_true (nat_eq e.id.node x.join.node) (nat_eq e.id.inc x.join.inc && nat_eq e.id.req (x.core.passed + 1)) a.1 in
+      let c = and_true (nat_eq e.id.inc x.join.inc) (nat_eq e.id.req (x.core.passed + 1)) b.1 in
+      (record { node = eq_true e.id.node x.join.node b.0; inc = eq_true e.id.inc x.join.inc c.0; req = eq_true e.id.req (x.core.passed + 1) c.1 }, length_some x.core.queue (lt_true 0 (length x.core.queue) a.0))
+
+  pub has_is_head : (e : Entry) (x : NodeState M) → Has e x.join.node x.join.inc (at_head x) → x.core.queue ≢ [] → is_head e x ≡ true
+  has_is_head e x h f = all (length x.core.queue) e.id.node x.join.node e.id.inc x.join.inc e.id.req (x.core.passed + 1) (some x.core.queue f) h.node h.inc h.req
+    where
+      some : (l : List Update) → l ≢ [] → 0 < length l
+      some [] f = absurd (f refl)
+      some (a ∷ as_) f = omega arith
+
+      all : (k a b c d e f : ℕ) → 0 < k → a ≡ b → c ≡ d → e ≡ f → (nat_lt 0 k && (nat_eq a b && (nat_eq c d && nat_eq e f))) ≡ true
+      all k a b c d e f p q r s = grind arith
+
+  -- the capacity of a node's registry is the log's
+  pub replay_cap : IsMachine M → (l : List Entry) (g : M.Registry) → M.cap (replay M l g) ≡ M.cap g
+  replay_cap law [] g = refl
+  replay_cap law (e ∷ l) g = replay_cap law l (M.apply e g).0 ∙ law.keeps e g
 
   -- the replica after one record more
   abbrev pub next_replica : Entry → Replica M → Replica M
@@ -91,6 +119,30 @@ module _ {M : Machine} where
       let q : Some (next_replica r s) ≡ Some t = sym (replica_next x r s st) ∙ e in
       let eq : next_replica r s ≡ t = cc in
       subst (λ (u : Replica M). Some r ≡ at_place w.log.order u.done) eq (sym here)
+
+  -- what came of the head, after one record more
+  pub next_outcome : (w : World M) (n : ℕ) (x : NodeState M) (r : Entry) (s : Replica M) (a : Entry) → NodeOk w n x → ((r s : Entry) → Stands w.log r → Stands w.log s → r.id.node ≡ s.id.node → r.id.inc ≡ s.id.inc → r.id.req ≡ s.id.req → r.place ≡ s.place) → Stands w.log r → x.replica ≡ Some s → r.place ≡ s.done + 1 → x.core.queue ≢ [] → Stands w.log a → Has a n x.join.inc (at_head x) → a.place ≤ s.done + 1
+      → (applied r x).outcome ≡ Some (outcome_at M w.log.cap w.log.order (a.place - 1) a)
+  next_outcome w n x r s a h ids sr st pl f sa id le =
+      let F : Option M.Outcome → Type 0 = λ o. o ≡ Some (outcome_at M w.log.cap w.log.order (a.place - 1) a) in
+      ⊎_elim
+      (λ (c : s.done < a.place).
+      -- the record is the head's
+      let ap1 : a.place ≡ s.done + 1 = omega arith in
+      let q : Some a ≡ Some r = sym sa.at ∙ ap (at_place w.log.order) (ap1 ∙ sym pl) ∙ sr.at in
+      let ar : a ≡ r = cc in
+      let hd : is_head r x ≡ true = subst (λ (t : Entry). is_head t x ≡ true) ar (has_is_head a x (record { node = id.node ∙ sym h.node; inc = id.inc; req = id.req }) f) in
+      let fo : s.registry ≡ registry_at M w.log.cap w.log.order (a.place - 1) = h.registry s st ∙ ap (registry_at M w.log.cap w.log.order) (omega arith) in
+      let out : outcome_after r x.replica ≡ Some (M.apply r s.registry).1 = rw st refl in
+      subst F (λ i. if sym hd i then outcome_after r x.replica else x.outcome) (out ∙ (λ i. Some (M.apply (sym ar i) (fo i)).1)))
+      (λ (c : a.place ≤ s.done).
+      let old : F x.outcome = h.outcome a f sa id (omega (arith, done_at x s st)) in
+      if_cases F (is_head r x) (outcome_after r x.replica) x.outcome
+      (λ b.
+      let i2 = (is_head_has r x b).0 in
+      absurd (omega (arith, c, pl, ids a r sa sr (id.node ∙ sym (i2.node ∙ h.node)) (id.inc ∙ sym i2.inc) (id.req ∙ sym i2.req))))
+      (λ b. old))
+      (cases_lt s.done a.place)
 
   -- the node that applied the next record of the order
   pub apply_node : (w : World M) (n : ℕ) (x : NodeState M) (r : Entry) (s : Replica M) → Invariant w → w.nodes n ≡ Some x → x.replica ≡ Some s → joining.is_ready x.join ≡ true → joining.locks x.join ≡ false → LoggedIn w.log r x.join.view.number → r.place ≡ s.done + 1
@@ -122,6 +174,8 @@ module _ {M : Machine} where
         waiting = h.waiting;
         waiting_doubt = h.waiting_doubt;
         behind = h.behind;
+        queued = h.queued;
+        all_requests = h.all_requests;
         finished = h.finished;
         within = omega (arith, d', within);
         registry = next_registry w n x r s h st here;
@@ -132,6 +186,11 @@ module _ {M : Machine} where
         closed = λ a b c. absurd (locker_not (joining.locks x.join) b nl);
         lock = λ l e. absurd (locker_not (joining.locks x.join) (h.lock l e).1 nl);
         settled = λ k e. let t = h.settled k e in (t.0, t.1, t.2, t.3, omega (arith, t.4, d, d'), t.5);
+        near_head = λ t wt sr id. omega (arith, h.near_head t wt sr id, d, d');
+        near_doubt = λ t wt mb id. omega (arith, h.near_doubt t wt mb id, d, d');
+        full_state = λ f. state_next x r s st;
+        pulling = λ o e. absurd (locker_not (joining.is_ready x.join) rd (h.pull o e).0);
+        outcome = λ a f sa id le. next_outcome w n x r s a h j.log.ids (record { at = lg.at }) st pl f sa id (omega (arith, le, d'));
       }
 
   pub apply_grown : (x : NodeState M) (r : Entry) (s : Replica M) → x.replica ≡ Some s → Grown x (applied r x)

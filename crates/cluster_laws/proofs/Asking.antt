@@ -53,6 +53,7 @@ module _ {M : Machine} where
           member = pos;
           next = next;
           asked = ok.3;
+          requested = ok.4;
           count = ok.0;
           counted = ok.1;
           new = ok.2;

@@ -1,5 +1,5 @@
 -- To finish a request, and what rests on it.
-use Rattle.std.proofs.Common.{◌≡◌, ◌≢◌, ℕ, ◌+◌, ◌<◌, ◌≤◌, Bool, true, false, List, [], ◌∷◌, length, drop, Option, Some, None, nat_lt, cond, if◌then◌else◌, slice_get, refl, sym, ap, ◌∙◌, subst, arith}
+use Rattle.std.proofs.Common.{◌≡◌, ◌≢◌, ℕ, ◌+◌, ◌<◌, ◌≤◌, Bool, true, false, List, [], ◌∷◌, length, drop, Option, Some, None, nat_lt, cond, if◌then◌else◌, slice_get, refl, sym, ap, ◌∙◌, subst, add-one, arith}
 use Rattle.gum_messages.specs.Members.{inc_of}
 use Rattle.gum_messages.proofs.Placing.{place_within}
 use Rattle.update_records.specs.Entry.{Entry}
@@ -13,10 +13,21 @@ use Rattle.cluster_rules.specs.Packets.{Packet, Ask, Release}
 use Rattle.cluster_rules.specs.Nodes.{Acked, Effect, NodeState, Send, asks, locker_at, packet}
 use Rattle.cluster_rules.specs.Updates.{proceeds}
 use Rattle.cluster_rules.specs.Worlds.{World, absorb, acked, sent}
-use Rattle.cluster_laws.proofs.Inv.{AckOk, AllReached, Has, Invariant, NodeOk, Pooled, Stands, at_head, greatest_asked}
+use Rattle.cluster_laws.proofs.Inv.{AckOk, AllReached, Has, Invariant, NodeOk, Pooled, Requested, Stands, at_head, greatest_asked}
 use Rattle.cluster_laws.proofs.Stable.{Ext, Grown, all_reached}
 use Rattle.cluster_laws.proofs.Moves.{ext_absorb, moved, one_acked, self_node, slice_get_back, told}
 use Rattle.cluster_laws.proofs.Heads.{HeadOk, ask_told, asks_acks, asks_least, asks_told, cons_told, full_asks, head_keeps, headed, not_asked, not_asked_doubt}
+
+pub drop_one : {A : Type 0} (l : List A) (k : ℕ) (a : A) → slice_get (drop 1 l) k ≡ Some a → slice_get l (k + 1) ≡ Some a
+drop_one [] k a e = absurd (none k e)
+  where
+    none : {A : Type 0} {a : A} (k : ℕ) → slice_get [] k ≡ Some a → ⊥
+    none k e = cc
+drop_one (x ∷ l) k a e = rw add-one e
+
+pub rest_length : {A : Type 0} (p : ℕ) (l : List A) → l ≢ [] → p + 1 + length (drop 1 l) ≡ p + length l
+rest_length p [] f = absurd (f refl)
+rest_length p (x ∷ l) f = omega arith
 
 pub if_some : (b : Bool) (a req : ℕ) → cond b (Some a) None ≡ Some req → (b ≡ true) × (a ≡ req)
 if_some true a req e = (refl, cc)
@@ -69,6 +80,10 @@ module _ {M : Machine} where
         idle = λ e. (refl, refl);
         settled = λ k e. absurd (cc);
         unsettled = λ e. refl;
+        full_state = λ f. (j.nodes n x at).full_state d.full;
+        queued = λ k u e. subst (λ (q : ℕ). Requested w n x.join.inc q u) (omega arith) ((j.nodes n x at).queued (k + 1) u (drop_one x.core.queue k u e));
+        all_requests = rest_length x.core.passed x.core.queue d.full;
+        outcome = λ s f st id. absurd (not_asked w n x s (at_head (popped x)) j at st id (omega (arith, fa)));
         spreading = λ s e. absurd (cc);
         finished = λ q lt le.
             let same : at_head x ≡ q = omega arith in
@@ -85,7 +100,7 @@ module _ {M : Machine} where
       let fa : greatest_asked x ≡ x.core.passed + 1 = full_asks x f in
       let full : (popped x).core.queue ≢ [] = λ z. absurd (let y : ◌≡◌ {A = List Update} (u ∷ us) [] = sym e ∙ z in cc) in
       let pa : greatest_asked (popped x) ≡ (popped x).core.passed + 1 = full_asks (popped x) full in
-      ask_told w n x (popped x) es req u j at (popped_grown x f) refl refl refl rd (omega (arith, pa)) (λ r c s id i. absurd (not_asked w n x r req j at s id (omega (arith, fa))))
+      ask_told w n x (popped x) es req u j at (popped_grown x f) refl refl refl rd (omega (arith, pa)) (subst (λ (q : ℕ). Requested w n x.join.inc q u) (omega (arith, rq)) ((j.nodes n x at).queued 1 u (drop_one x.core.queue 0 u (ap (λ (l : List Update). slice_get l 0) e)))) (λ r c s id i. absurd (not_asked w n x r req j at s id (omega (arith, fa))))
 
   -- with the lock released
   pub finish_keeps : (w : World M) (n : ℕ) (x : NodeState M) (r : Entry) → Invariant w → w.nodes n ≡ Some x → Done w n x r → Invariant (absorb n (proceeds x r (updating.finished x.core r.place)) w)

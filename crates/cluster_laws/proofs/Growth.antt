@@ -1,5 +1,5 @@
 -- The log grows by a record.
-use Rattle.std.proofs.Common.{◌≡◌, ◌≢◌, ◌⊎◌, inl, inr, ⊎_elim, ℕ, zero, suc, ◌+◌, ◌<◌, ◌≤◌, List, [], ◌∷◌, ◌++◌, length, take, Option, Some, None, slice_get, refl, sym, ap, ◌∙◌, subst, length-append, arith}
+use Rattle.std.proofs.Common.{◌≡◌, ◌≢◌, ◌⊎◌, inl, inr, ⊎_elim, ℕ, zero, suc, ◌+◌, ◌-◌, ◌<◌, ◌≤◌, List, [], ◌∷◌, ◌++◌, length, take, Option, Some, None, slice_get, refl, sym, ap, ◌∙◌, subst, length-append, arith}
 use Rattle.gum_messages.specs.declared.view.View.{View}
 use Rattle.gum_messages.specs.Members.{inc_of, locker_of}
 use Rattle.gum_messages.specs.Places.{at_place}
@@ -10,7 +10,7 @@ use Rattle.cluster_rules.specs.Machines.{Machine, replay}
 use Rattle.cluster_rules.specs.Packets.{Packet}
 use Rattle.cluster_rules.specs.Nodes.{NodeState, done_of}
 use Rattle.cluster_rules.specs.Worlds.{Log, World, put}
-use Rattle.cluster_laws.proofs.Inv.{AckOk, Asked, Has, LogOk, NodeOk, NotBefore, Stands, at_head, waits}
+use Rattle.cluster_laws.proofs.Inv.{AckOk, Asked, Has, LogOk, NodeOk, NotBefore, Requested, Stands, at_head, waits}
 use Rattle.cluster_laws.proofs.Stable.{AskedOnly, Ext, Longer, all_reached, asked_, bytes_stay, entered_, logged_in, reached, stands, was_ready}
 use Rattle.cluster_laws.proofs.Applying.{done_at}
 use Rattle.std.proofs.lemmas.List.{take-append-le}
@@ -70,6 +70,7 @@ module _ {M : Machine} where
     pub place : r.place ≡ length w.log.order + 1
     pub view : view_in w.chain v.number ≡ Some v
     pub told : (a : ℕ) (p : ℕ × ℕ) → slice_get w.acks a ≡ Some p → slice_get acks a ≡ Some p
+    pub near : (m : ℕ) (z : NodeState M) → w.nodes m ≡ Some z → waits z → Has r m z.join.inc (at_head z) → length w.log.order ≤ done_of z
     pub alone : (m : ℕ) (z : NodeState M) (s : Entry) → w.nodes m ≡ Some z → waits z → Stands w.log s → Has s m z.join.inc (at_head z) → inc_of v.members m ≢ z.join.inc
 
   pub node_grows : (w : World M) (r : Entry) (v : View) (nodes : ℕ → Option (NodeState M)) (pool : List Packet) (acks : List (ℕ × ℕ)) (m : ℕ) (z : NodeState M) → LogOk w → Grows w r v nodes pool acks → w.nodes m ≡ Some z → NodeOk w m z → NodeOk (grown_world w r v.number nodes pool acks) m z
@@ -97,6 +98,10 @@ module _ {M : Machine} where
         closed = h.closed;
         idle = h.idle;
         unsettled = h.unsettled;
+        full_state = h.full_state;
+        pulling = h.pulling;
+        queued = h.queued;
+        all_requests = h.all_requests;
         within = omega (arith, h.within, within);
         registry = λ s f. h.registry s f ∙ sym (lg.fold s.done (omega (arith, h.within, done_at z s f)));
         last = λ s f. h.last s f ∙ sym (lg.order s.done (omega (arith, h.within, done_at z s f)));
@@ -123,6 +128,15 @@ module _ {M : Machine} where
             (λ (d : Stands w.log a × (a.place ≤ length w.log.order)). h.behind a c wt d.0 id rd i)
             (λ (d : (a ≡ r) × (a.place ≡ length w.log.order + 1)). omega (arith, (lo.counts z.join.view.number c i).0, d.1))
             (fresh_or_old w.log r a v.number gs.place sa);
+        near_head = λ a wt sa id. ⊎_elim
+            (λ (d : Stands w.log a × (a.place ≤ length w.log.order)). h.near_head a wt d.0 id)
+            (λ (d : (a ≡ r) × (a.place ≡ length w.log.order + 1)). omega (arith, d.1, gs.near m z at wt (subst (λ (t : Entry). Has t m z.join.inc (at_head z)) d.0 id)))
+            (fresh_or_old w.log r a v.number gs.place sa);
+        near_doubt = λ a wt mb id. absurd (cc);
+        outcome = λ a f sa id le. ⊎_elim
+            (λ (d : Stands w.log a × (a.place ≤ length w.log.order)). h.outcome a f d.0 id le ∙ ap (λ (g : M.Registry). Some (M.apply a g).1) (sym (lg.fold (a.place - 1) (omega (arith, d.1)))))
+            (λ (d : (a ≡ r) × (a.place ≡ length w.log.order + 1)). absurd (omega (arith, d.1, h.within, le)))
+            (fresh_or_old w.log r a v.number gs.place sa);
         finished = λ q p b. let f = h.finished q p b in
             (f.0, f.1, f.2, stands w.log w'.log f.0 lg f.3, f.4, gs.told f.1 (f.2, f.0.place) f.5, f.6);
       }
@@ -131,6 +145,7 @@ module _ {M : Machine} where
   pub record NewOk (w : World M) (r : Entry) (v : View) : Type 0 where
     pub positive : 1 ≤ r.id.req
     pub asked : Asked w r.id.node r.id.inc r.id.req
+    pub requested : Requested w r.id.node r.id.inc r.id.req r.update
     pub new : NotBefore w.log r.id.node r.id.inc r.id.req (length w.log.order)
     pub inc : r.id.inc ≡ inc_of v.members r.id.node
     pub member : 0 < r.id.inc
@@ -168,6 +183,12 @@ module _ {M : Machine} where
             (λ (c : Old s). let a = h.logged s c.0 in (a.0, ap (view_in w.chain) (va s c) ∙ a.1, a.2, a.3))
             (λ (c : New s). (v, ap (view_in w.chain) (vn s c) ∙ gs.view, ap (λ (t : Entry). t.id.inc) c.0 ∙ k.inc ∙ ap (λ (t : Entry). inc_of v.members t.id.node) (sym c.0), subst (λ (t : Entry). 0 < t.id.inc) (sym c.0) k.member))
             (which s st);
+        requested = λ s st. ⊎_elim
+            (λ (c : Old s). h.requested s c.0)
+            (λ (c : New s). subst (λ (t : Entry). Requested w t.id.node t.id.inc t.id.req t.update) (sym c.0) k.requested)
+            (which s st);
+        doubt_requested = λ s f. absurd (cc);
+        unasked = h.unasked;
         doubt = λ s f. absurd (cc);
         doubt_view = λ s f. absurd (cc);
         counts = λ u c s. let a = h.counts u c s in

@@ -1,11 +1,12 @@
 -- The rules for Granted, Applied and a submitted update.
-use Rattle.std.proofs.Common.{◌≡◌, ◌≢◌, ◌⊎◌, inl, inr, ⊎_elim, ℕ, zero, suc, ◌+◌, ◌<◌, ◌≤◌, Bool, true, false, ◌&&◌, List, [], ◌∷◌, ◌++◌, length, Option, Some, None, nat_eq, nat_lt, cond, slice_get, refl, sym, ap, ◌∙◌, subst, arith}
+use Rattle.std.proofs.Common.{◌≡◌, ◌≢◌, ◌⊎◌, inl, inr, ⊎_elim, ℕ, zero, suc, ◌+◌, ◌<◌, ◌≤◌, Bool, true, false, ◌&&◌, List, [], ◌∷◌, ◌++◌, length, Option, Some, None, nat_eq, nat_lt, cond, if◌then◌else◌, slice_get, refl, sym, ap, ◌∙◌, subst, length-append, arith}
 use Rattle.std.proofs.lemmas.Bool.{cases_lt}
 use Rattle.gum_messages.specs.declared.member.Member.{Member}
 use Rattle.gum_messages.specs.declared.view.View.{View}
 use Rattle.gum_messages.specs.Members.{inc_of, locker_of, spread_of}
+use Rattle.gum_messages.specs.Places.{at_place}
 use Rattle.gum_messages.proofs.Branches.{if_cases, option_cases}
-use Rattle.gum_messages.proofs.Placing.{get_within}
+use Rattle.gum_messages.proofs.Placing.{get_push, get_within, place_new, place_old}
 use Rattle.update_records.specs.Entry.{Entry}
 use Rattle.update_records.specs.declared.update.Update.{Update}
 use Rattle.gum_core.specs.declared.spreading.Spreading.{Spreading}
@@ -19,16 +20,16 @@ use Rattle.view_reconcile.specs.Joining.{ReconcileState}
 use Rattle.view_reconcile.specs.Joining as joining
 use Rattle.view_reconcile.specs.Chains.{view_in}
 use Rattle.cluster_rules.specs.Machines.{Machine}
-use Rattle.cluster_rules.specs.Packets.{Packet, Granted, Apply, Applied, Release}
+use Rattle.cluster_rules.specs.Packets.{Packet, Ask, Granted, Apply, Applied, Release}
 use Rattle.cluster_rules.specs.Nodes.{Effect, NodeState, Out, Send, asks, locker_at, nothing, packet}
-use Rattle.cluster_rules.specs.Updates.{asked_for, may_submit, on_applied, on_granted, proceeds, submit}
-use Rattle.cluster_rules.specs.Worlds.{World, absorb}
-use Rattle.cluster_laws.proofs.Inv.{AckOk, AllReached, Asked, Has, Invariant, MsgOk, NodeOk, Pooled, Reached, WasReady, at_head, greatest_asked}
-use Rattle.cluster_laws.proofs.Stable.{Grown, all_reached, asks_most, grown_refl}
-use Rattle.cluster_laws.proofs.Moves.{ext_absorb, moved, none_acked, one_told, self_node, stay_keeps, stay_sends, told}
-use Rattle.cluster_laws.proofs.Applying.{and_true, eq_true}
+use Rattle.cluster_rules.specs.Updates.{asked_for, may_submit, on_applied, on_granted, proceeds, submit, submits}
+use Rattle.cluster_rules.specs.Worlds.{World, absorb, acked, noted, put}
+use Rattle.cluster_laws.proofs.Inv.{AckOk, AllReached, Asked, Has, Invariant, MemberOk, MsgOk, NodeOk, Owner, OwnerOk, Pooled, Reached, Requested, Stands, WasReady, at_head, greatest_asked, waits}
+use Rattle.cluster_laws.proofs.Stable.{AskedOnly, Ext, Grown, all_reached, asks_most, grown_refl, reached, was_ready}
+use Rattle.cluster_laws.proofs.Moves.{ext_on, move_on, with_requests, at_self, ext_absorb, moved, none_acked, one_told, put_cases, self_node, slice_get_front, stay_keeps, stay_sends, told}
+use Rattle.cluster_laws.proofs.Applying.{and_true, length_some, eq_true}
 use Rattle.gum_core.proofs.Cases.{applied_cases, granted_cases, receiver_says, spread_cases}
-use Rattle.cluster_laws.proofs.Heads.{SpreadOk, append_some, ask_told, asks_acks, asks_told, asked_head, empty_asks, full_asks, head_keeps, headed, length_some}
+use Rattle.cluster_laws.proofs.Heads.{SpreadOk, append_some, asks_acks, asks_told, asked_head, empty_asks, full_asks, head_keeps, headed}
 use Rattle.cluster_laws.proofs.Finish.{Done, finish_keeps}
 
 -- each member is the locker or stands in the spreading order
@@ -131,6 +132,10 @@ module _ {M : Machine} where
         idle = λ e. absurd (f e);
         settled = h.settled;
         unsettled = h.unsettled;
+        full_state = λ f. h.full_state f;
+        queued = h.queued;
+        all_requests = refl;
+        outcome = h.outcome;
         spreading = λ t e. let q : sp ≡ t = cc in subst (λ (t : Spreading). (a : Entry) × (Some r ≡ Some a) × (a.place ≡ t.place) × Has a n x.join.inc (at_head x) × SpreadOk w n x a t.at) q (r, refl, refl, id, s);
         finished = λ q lt le. absurd (omega arith);
         messages = one_told (λ (q : Packet). Pooled (moved w n y es) q) (packet y to (Apply r)) (told w n x y es to (Apply r) h (h.ready_view (open_is_ready x.join s.0)) refl refl (record { at = s.1.at; view = s.1.view }));
@@ -190,39 +195,150 @@ module _ {M : Machine} where
       let ok1 : Has e n x.join.inc (at_head x) × SpreadOk w n x e (s.at + 1) = subst (λ (a : Entry). Has a n x.join.inc (at_head x) × SpreadOk w n x a (s.at + 1)) same (t.5, ok0) in
       subst (λ (k : ℕ). Invariant (absorb n (proceeds x e (updating.spread x.core k (s.at + 1))) w)) (sym pe) (spread_keeps w n x e (s.at + 1) j at full ok1.0 ok1.1)))
 
-  -- an update is submitted
-  pub submit_keeps : (w : World M) (n : ℕ) (x : NodeState M) (u : Update) → Invariant w → w.nodes n ≡ Some x → Invariant (absorb n (submit x u) w)
-  submit_keeps w n x u j at =
+  -- an update is submitted: it is the next request
+  abbrev pub more_requests : World M → ℕ → NodeState M → Update → ℕ → ℕ → List Update
+  more_requests w n x u = put w.requests n (put (w.requests n) x.join.inc (w.requests n x.join.inc ++ u ∷ []))
+
+  pub requests_on : (w : World M) (n : ℕ) (x : NodeState M) (u : Update) (m i q : ℕ) (v : Update) → Requested w m i q v → at_place (more_requests w n x u m i) q ≡ Some v
+  requests_on w n x u m i q v e =
+      if_cases (λ (f : ℕ → List Update). at_place (f i) q ≡ Some v) (nat_eq m n) (put (w.requests n) x.join.inc (w.requests n x.join.inc ++ u ∷ [])) (w.requests m)
+      (λ a. if_cases (λ (l : List Update). at_place l q ≡ Some v) (nat_eq i x.join.inc) (w.requests n x.join.inc ++ u ∷ []) (w.requests n i)
+      (λ b. place_old (w.requests n x.join.inc) u q v (subst (λ (k : ℕ). at_place (w.requests n k) q ≡ Some v) (eq_true i x.join.inc b) (subst (λ (k : ℕ). at_place (w.requests k i) q ≡ Some v) (eq_true m n a) e)))
+      (λ b. subst (λ (k : ℕ). at_place (w.requests k i) q ≡ Some v) (eq_true m n a) e))
+      (λ a. e)
+
+  own_requests : (w : World M) (n : ℕ) (x : NodeState M) (u : Update) → more_requests w n x u n x.join.inc ≡ w.requests n x.join.inc ++ u ∷ []
+  own_requests w n x u = (λ i. same w.requests n (put (w.requests n) x.join.inc (w.requests n x.join.inc ++ u ∷ [])) i x.join.inc) ∙ same (w.requests n) x.join.inc (w.requests n x.join.inc ++ u ∷ [])
+    where
+      same : {A : Type 0} (f : ℕ → A) (n : ℕ) (v : A) → put f n v n ≡ v
+      same f n v = grind arith
+
+  other_requests : (w : World M) (n : ℕ) (x : NodeState M) (u : Update) (m : ℕ) → m ≢ n → more_requests w n x u m ≡ w.requests m
+  other_requests w n x u m ne = other w.requests n (put (w.requests n) x.join.inc (w.requests n x.join.inc ++ u ∷ [])) m ne
+    where
+      other : {A : Type 0} (f : ℕ → A) (n : ℕ) (v : A) (m : ℕ) → m ≢ n → put f n v m ≡ f m
+      other f n v m h = grind arith
+
+  unasked_on : (w : World M) (n : ℕ) (x : NodeState M) (u : Update) → NodeOk w n x → ((m i : ℕ) → w.starts m < i → length (w.requests m i) ≡ 0) → (m i : ℕ) → w.starts m < i → length (more_requests w n x u m i) ≡ 0
+  unasked_on w n x u h un m i lt =
+      if_cases (λ (f : ℕ → List Update). length (f i) ≡ 0) (nat_eq m n) (put (w.requests n) x.join.inc (w.requests n x.join.inc ++ u ∷ [])) (w.requests m)
+      (λ a. if_cases (λ (l : List Update). length l ≡ 0) (nat_eq i x.join.inc) (w.requests n x.join.inc ++ u ∷ []) (w.requests n i)
+      (λ b. absurd (omega (arith, h.inc, eq_true i x.join.inc b, ap w.starts (eq_true m n a))))
+      (λ b. subst (λ (k : ℕ). length (w.requests k i) ≡ 0) (eq_true m n a) (un m i lt)))
+      (λ a. un m i lt)
+
+  -- the node with one request more
+  taken_keeps : (w : World M) (n : ℕ) (x : NodeState M) (u : Update) → Invariant w → w.nodes n ≡ Some x → may_submit x ≡ true → Invariant (absorb n (submits x (updating.submitted x.core u)) (with_requests w (more_requests w n x u)))
+  taken_keeps w n x u j at g =
       let h : NodeOk w n x = j.nodes n x at in
-      if_cases (λ (o : Out M). Invariant (absorb n o w)) (may_submit x) _ _
-      (λ g.
       let op : x.core.is_open ≡ true = (and_true x.core.is_open (nat_lt (x.core.passed + length x.core.queue) updating.last_request) g).0 in
       let rd : joining.is_ready x.join ≡ true = open_is_ready x.join (sym h.core_open ∙ op) in
+      let rq : ℕ → ℕ → List Update = more_requests w n x u in
       let y : NodeState M = headed x x.core.passed (x.core.queue ++ u ∷ []) x.core.spreading x.spreads x.settled x.outcome in
       let full : y.core.queue ≢ [] = append_some x.core.queue u in
       let fy : greatest_asked y ≡ x.core.passed + 1 = full_asks y full in
       let es : List Effect = asks y (asked_for (updating.first_ask x.core)) in
+      let w' : World M = moved (with_requests w rq) n y es in
       let gr : Grown x y = record { inc = refl; done = omega arith; passed = omega arith; asks = omega (arith, fy, asks_most x); view = omega arith; waits = λ e q z. (q, z.1) } in
+      let more = requests_on w n x u in
+      let e : Ext w w' = ext_on w rq n x y es more at gr in
+      let ao : AskedOnly w = λ r s. (j.log.asked r s).1 in
       let fresh_ : (r : Entry) → Asked w r.id.node r.id.inc r.id.req → Has r n x.join.inc (at_head y) → x.core.queue ≢ [] = λ r a id z. absurd (omega (arith, asked_head w n x r (at_head y) at a id, empty_asks x z)) in
-      head_keeps w n x x.core.passed (x.core.queue ++ u ∷ []) x.core.spreading x.spreads x.settled x.outcome es j at (record {
-        more = omega arith;
-        more_asks = gr.asks;
-        still = gr.waits;
-        new = λ r wt s id. ((fresh_ r (j.log.asked r s).1 id, wt.1), refl);
-        new_doubt = λ r wt s id. ((fresh_ r (j.log.doubt r s).2 id, wt.1), refl);
-        idle = λ e. absurd (full e);
-        settled = h.settled;
-        unsettled = h.unsettled;
-        spreading = λ s e. let t = h.spreading s e in (t.0, t.1, t.2, t.5, (t.3, t.4, t.6, t.7));
-        finished = λ q lt le. absurd (omega arith);
-        messages = asks_told (λ (p : Packet). Pooled (moved w n y es) p) y (asked_for (updating.first_ask x.core)) (λ req v vs some full_.
+      let waits_ : (r : Entry) → waits y → Stands w.log r → Has r n x.join.inc (at_head y) → waits x = λ r wt s id. (fresh_ r (j.log.asked r s).1 id, wt.1) in
+      let len : length (x.core.queue ++ u ∷ []) ≡ length x.core.queue + 1 = length-append x.core.queue (u ∷ []) in
+      let own : rq n x.join.inc ≡ w.requests n x.join.inc ++ u ∷ [] = own_requests w n x u in
+      let new : at_place (rq n x.join.inc) (x.core.passed + length x.core.queue + 1) ≡ Some u = subst (λ (l : List Update). at_place l (x.core.passed + length x.core.queue + 1) ≡ Some u) (sym own) (subst (λ (k : ℕ). at_place (w.requests n x.join.inc ++ u ∷ []) (k + 1) ≡ Some u) h.all_requests (place_new (w.requests n x.join.inc) u)) in
+      let queued_ : (k : ℕ) (v : Update) → slice_get (x.core.queue ++ u ∷ []) k ≡ Some v → at_place (rq n x.join.inc) (x.core.passed + (k + 1)) ≡ Some v = λ k v f. ⊎_elim
+      (λ (c : slice_get x.core.queue k ≡ Some v). more n x.join.inc (x.core.passed + (k + 1)) v (h.queued k v c))
+      (λ (c : (k ≡ length x.core.queue) × (v ≡ u)). subst (λ (t : ℕ). at_place (rq n x.join.inc) t ≡ Some v) (omega (arith, c.0)) (subst (λ (t : Update). at_place (rq n x.join.inc) (x.core.passed + length x.core.queue + 1) ≡ Some t) (sym c.1) new))
+      (get_push x.core.queue u k v f) in
+      move_on w rq n x y es more (other_requests w n x u) (unasked_on w n x u h j.log.unasked) j at (record {
+        grown = gr;
+        node = record {
+          node = h.node;
+          inc = h.inc;
+          positive = h.positive;
+          core_node = h.core_node;
+          core_members = h.core_members;
+          core_open = h.core_open;
+          entries = h.entries;
+          view = h.view;
+          peopled = h.peopled;
+          ready_view = h.ready_view;
+          within = h.within;
+          registry = h.registry;
+          last = h.last;
+          ready_state = h.ready_state;
+          below = h.below;
+          unready = h.unready;
+          pull = h.pull;
+          pulled = h.pulled;
+          closed = h.closed;
+          lock = h.lock;
+          settled = h.settled;
+          unsettled = h.unsettled;
+          pulling = h.pulling;
+          idle = λ q. absurd (full q);
+          marked = λ b c p. was_ready w w' b (inc_of x.join.view.members b) x.join.view.number e ao (h.marked b c p);
+          all_ready = λ c b p. was_ready w w' b (inc_of x.join.view.members b) x.join.view.number e ao (h.all_ready c b p);
+          spreading = λ s c. let t = h.spreading s c in
+              (t.0, t.1, t.2, t.3, t.4, t.5, reached w w' (locker_of x.join.view.members) (inc_of x.join.view.members (locker_of x.join.view.members)) t.0.place e t.6, λ i m l f. reached w w' m.node (inc_of x.join.view.members m.node) t.0.place e (t.7 i m l f));
+          waiting = λ r s v wt sr id. h.waiting r s v (waits_ r wt sr id) sr id;
+          waiting_doubt = λ r s v wt sr id. h.waiting_doubt r s v (waits_ r wt sr id) sr id;
+          behind = λ r c wt sr id. h.behind r c (waits_ r wt sr id) sr id;
+          near_head = λ r wt sr id. h.near_head r (waits_ r wt sr id) sr id;
+          near_doubt = λ r wt mb id. h.near_doubt r (fresh_ r (j.log.doubt r mb).2 id, wt.1) mb id;
+          full_state = λ q. (h.ready_state rd).0;
+          outcome = λ r q sr id. h.outcome r (fresh_ r (j.log.asked r sr).1 id) sr id;
+          queued = queued_;
+          all_requests = ap (λ (l : List Update). length l) own ∙ length-append (w.requests n x.join.inc) (u ∷ []) ∙ omega (arith, h.all_requests, len);
+          finished = λ q p b. let f = h.finished q p b in
+              (f.0, f.1, f.2, f.3, f.4, slice_get_front w.acks (acked es) f.1 (f.2, f.0.place) f.5, f.6);
+        };
+        messages = asks_told (λ (p : Packet). Pooled w' p) y (asked_for (updating.first_ask x.core)) (λ req v vs some full_.
             let b = asked_some (x.core.is_open && nat_eq (length x.core.queue) 0) (x.core.passed + 1) req some in
             let none : length x.core.queue ≡ 0 = eq_true (length x.core.queue) 0 (and_true x.core.is_open (nat_eq (length x.core.queue) 0) b.0).1 in
-            ask_told w n x y es req v j at gr refl refl refl rd (omega (arith, fy, b.1)) (λ r c s id i. absurd (fresh_ r (j.log.asked r s).1 (record { node = id.node; inc = id.inc; req = id.req ∙ sym b.1 }) (no_length x.core.queue none))));
-        acks = λ k v p s. none_acked (λ (a b : ℕ). AckOk (moved w n y es) a b) k v p (subst (λ (l : List (ℕ × ℕ)). slice_get l k ≡ Some (v, p)) (asks_acks y (asked_for (updating.first_ask x.core))) s);
-      }))
-      (λ g. stay_keeps w n x j at)
+            let nz : x.join.view.number ≢ 0 = h.ready_view rd in
+            let here : inc_of x.join.view.members n ≡ x.join.inc = (h.view nz).1 in
+            let c = h.ready_state rd in
+            let asked : at_place (rq n x.join.inc) req ≡ Some v = subst (λ (q : ℕ). at_place (rq n x.join.inc) q ≡ Some v) (omega (arith, b.1)) (queued_ 0 v (ap (λ (l : List Update). slice_get l 0) full_)) in
+            record {
+              view = x.join.view;
+              declared = (h.view nz).0;
+              number = refl;
+              ok = subst (λ (m : ℕ). MsgOk w' x.join.view m (locker_at y) (Ask req v)) (sym h.node) (
+                c.1,
+                c.2,
+                record { none = λ r s id. absurd (fresh_ r (j.log.asked r (record { at = s })).1 (record { node = id.node; inc = id.inc ∙ here; req = id.req ∙ sym b.1 }) (no_length x.core.queue none)) },
+                record { started = omega (arith, h.inc, here); asks = λ z d same. self_node (with_requests w rq) n y es (λ (t : NodeState M). req ≤ greatest_asked t) (omega (arith, fy, b.1)) z d },
+                subst (λ (i : ℕ). at_place (rq n i) req ≡ Some v) (sym here) asked,
+              );
+            });
+        acks = λ k v p s. none_acked (λ (a b : ℕ). AckOk w' a b) k v p (subst (λ (l : List (ℕ × ℕ)). slice_get l k ≡ Some (v, p)) (asks_acks y (asked_for (updating.first_ask x.core))) s);
+        owner = λ o.
+            let ox : Owner w n x = record { runs = at; ready = o.ready; locker = o.locker; held = o.held } in
+            let k : OwnerOk w n x = j.owner n x ox in
+            record {
+              sure = k.sure;
+              all_done = k.all_done;
+              closed = k.closed;
+              greatest = k.greatest;
+              members = λ op2 a b f i. ⊎_elim
+                  (λ (d : (a ≡ n) × (Some y ≡ Some b)). at_self (λ (t : ℕ) (v : NodeState M). inc_of x.join.view.members t ≡ v.join.inc → MemberOk w.log x.core.lock t v) a n y b d.0 d.1
+                  (λ q. let old = k.members op2 n x at q in record { near = old.near; free = old.free; heads = λ r wt sr id. old.heads r (waits_ r wt sr id) sr id }) i)
+                  (λ (d : (a ≢ n) × (w.nodes a ≡ Some b)). k.members op2 a b d.1 i)
+                  (put_cases w.nodes n (Some y) a b f);
+            };
+        member = λ a z ne o k op2 i. let old = k.members op2 n x at i in record { near = old.near; free = old.free; heads = λ r wt sr id. old.heads r (waits_ r wt sr id) sr id };
+      })
     where
       no_length : (l : List Update) → length l ≡ 0 → l ≡ []
       no_length [] e = refl
       no_length (a ∷ as_) e = absurd (omega arith)
+
+  pub submit_keeps : (w : World M) (n : ℕ) (x : NodeState M) (u : Update) → Invariant w → w.nodes n ≡ Some x → Invariant (absorb n (submit x u) (noted n x u w))
+  submit_keeps w n x u j at = both (may_submit x) refl
+    where
+      both : (b : Bool) → may_submit x ≡ b → Invariant (absorb n (if b then submits x (updating.submitted x.core u) else nothing x) (if b then with_requests w (more_requests w n x u) else w))
+      both true g = taken_keeps w n x u j at g
+      both false g = stay_keeps w n x j at

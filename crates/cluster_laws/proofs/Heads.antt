@@ -1,5 +1,5 @@
 -- Moves of a node's queue and head.
-use Rattle.std.proofs.Common.{◌≡◌, ◌≢◌, ◌⊎◌, inl, inr, ⊎_elim, ℕ, zero, suc, ◌+◌, ◌<◌, ◌≤◌, true, List, [], ◌∷◌, ◌++◌, length, Option, Some, None, slice_get, refl, sym, ap, ◌∙◌, subst, arith}
+use Rattle.std.proofs.Common.{◌≡◌, ◌≢◌, ◌⊎◌, inl, inr, ⊎_elim, ℕ, zero, suc, ◌+◌, ◌-◌, ◌<◌, ◌≤◌, true, List, [], ◌∷◌, ◌++◌, length, Option, Some, None, slice_get, refl, sym, ap, ◌∙◌, subst, arith}
 use Rattle.std.proofs.lemmas.Bool.{cases_lt}
 use Rattle.gum_messages.specs.declared.member.Member.{Member}
 use Rattle.gum_messages.specs.Members.{inc_of, locker_of, spread_of}
@@ -9,21 +9,17 @@ use Rattle.update_records.specs.declared.update.Update.{Update}
 use Rattle.gum_core.specs.declared.spreading.Spreading.{Spreading}
 use Rattle.view_reconcile.specs.Joining.{ReconcileState}
 use Rattle.view_reconcile.specs.Joining as joining
-use Rattle.cluster_rules.specs.Machines.{Machine}
+use Rattle.cluster_rules.specs.Machines.{Machine, outcome_at}
 use Rattle.cluster_rules.specs.Packets.{Packet, Ask}
-use Rattle.cluster_rules.specs.Nodes.{Effect, NodeState, Send, asks, becomes, done_of, locker_at, packet}
+use Rattle.cluster_rules.specs.Nodes.{Effect, NodeState, Send, asks, becomes, done_of, has_state, locker_at, packet}
 use Rattle.cluster_rules.specs.Worlds.{World, acked, sent}
-use Rattle.cluster_laws.proofs.Inv.{AckOk, Asked, Has, Invariant, LoggedIn, MemberOk, NodeOk, Pooled, Reached, Stands, at_head, greatest_asked, waits}
+use Rattle.cluster_laws.proofs.Inv.{AckOk, Asked, Has, Invariant, LoggedIn, MemberOk, NodeOk, Pooled, Reached, Requested, Stands, at_head, greatest_asked, waits}
 use Rattle.cluster_laws.proofs.Stable.{AskedOnly, Ext, Grown, reached}
 use Rattle.cluster_laws.proofs.Moves.{ext_absorb, move_keeps, moved, node_stays, none_told, one_told, owner_moves, self_node, told}
 
 pub no_list : {A : Type 0} (l : List A) → (l ≡ []) ⊎ (l ≢ [])
 no_list [] = inl refl
 no_list (x ∷ xs) = inr (λ e. cc)
-
-pub length_some : {A : Type 0} (l : List A) → 0 < length l → l ≢ []
-length_some [] h = absurd (omega arith)
-length_some (x ∷ xs) h = λ e. cc
 
 pub append_some : {A : Type 0} (l : List A) (u : A) → l ++ u ∷ [] ≢ []
 append_some [] u e = cc
@@ -78,6 +74,10 @@ module _ {M : Machine} where
     pub settled : (k : ℕ) → y.settled ≡ Some k → (r : Entry) × Stands w.log r × (r.place ≡ k) × Has r n x.join.inc (at_head y) × (k ≤ done_of x) × (joining.is_ready x.join ≡ true → (c : ℕ) → w.log.count x.join.view.number ≡ Some c → k ≤ c)
     pub unsettled : joining.is_open x.join ≡ true → y.settled ≡ None
     pub spreading : (s : Spreading) → y.core.spreading ≡ Some s → (r : Entry) × (y.spreads ≡ Some r) × (r.place ≡ s.place) × Has r n x.join.inc (at_head y) × SpreadOk w n x r s.at
+    pub full_state : y.core.queue ≢ [] → has_state x ≡ true
+    pub outcome : (r : Entry) → y.core.queue ≢ [] → Stands w.log r → Has r n x.join.inc (at_head y) → r.place ≤ done_of x → y.outcome ≡ Some (outcome_at M w.log.cap w.log.order (r.place - 1) r)
+    pub queued : (k : ℕ) (u : Update) → slice_get y.core.queue k ≡ Some u → Requested w n x.join.inc (y.core.passed + (k + 1)) u
+    pub all_requests : y.core.passed + length y.core.queue ≡ x.core.passed + length x.core.queue
     pub finished : (q : ℕ) → x.core.passed < q → q ≤ y.core.passed → (r : Entry) × (a v : ℕ) × Stands w.log r × Has r n x.join.inc q × (slice_get (w.acks ++ acked es) a ≡ Some (v, r.place)) × (v ≤ x.join.view.number)
     pub messages : (k : ℕ) (p : Packet) → slice_get (sent es) k ≡ Some p → Pooled (moved w n y es) p
     pub acks : (k v p : ℕ) → slice_get (acked es) k ≡ Some (v, p) → AckOk (moved w n y es) v p
@@ -118,6 +118,7 @@ module _ {M : Machine} where
           lock = g.lock;
           marked = g.marked;
           all_ready = g.all_ready;
+          pulling = g.pulling;
           idle = k.idle;
           settled = k.settled;
           unsettled = k.unsettled;
@@ -126,6 +127,12 @@ module _ {M : Machine} where
           waiting = λ r s u wt sr id. let old = at_old r wt sr id in h.waiting r s u old.0 sr old.1;
           waiting_doubt = λ r s u wt sr id. let old = at_old r wt sr id in h.waiting_doubt r s u old.0 sr old.1;
           behind = λ r c wt sr id. let old = at_old r wt sr id in h.behind r c old.0 sr old.1;
+          near_head = λ r wt sr id. let old = at_old r wt sr id in h.near_head r old.0 sr old.1;
+          near_doubt = λ r wt mb id. let nw : waits x × (x.core.passed ≡ p) = k.new_doubt r wt mb id in h.near_doubt r nw.0 mb (record { node = id.node; inc = id.inc; req = id.req ∙ ap (λ (t : ℕ). t + 1) (sym nw.1) });
+          full_state = k.full_state;
+          outcome = k.outcome;
+          queued = k.queued;
+          all_requests = h.all_requests ∙ sym k.all_requests;
           finished = λ i one le. ⊎_elim
               (λ (b : x.core.passed < i). k.finished i b le)
               (λ (b : i ≤ x.core.passed). g.finished i one b)
@@ -153,10 +160,14 @@ module _ {M : Machine} where
   pub not_asked_doubt : (w : World M) (n : ℕ) (x : NodeState M) (r : Entry) (q : ℕ) → Invariant w → w.nodes n ≡ Some x → w.log.doubtful ≡ Some r → Has r n x.join.inc q → greatest_asked x < q → ⊥
   not_asked_doubt w n x r q j at s id lt = omega (arith, asked_head w n x r q at (j.log.doubt r s).2 id, lt)
 
+  -- the head's update is that of its request
+  pub head_requested : (w : World M) (n : ℕ) (x : NodeState M) (u : Update) (us : List Update) (req : ℕ) → NodeOk w n x → x.core.queue ≡ u ∷ us → req ≡ x.core.passed + 1 → Requested w n x.join.inc req u
+  head_requested w n x u us req h e rq = subst (λ (q : ℕ). Requested w n x.join.inc q u) (sym rq) (h.queued 0 u (ap (λ (l : List Update). slice_get l 0) e))
+
   -- an Ask for a request that isn't in the first records
-  pub ask_told : (w : World M) (n : ℕ) (x y : NodeState M) (es : List Effect) (q : ℕ) (u : Update) → Invariant w → w.nodes n ≡ Some x → Grown x y → y.join.view ≡ x.join.view → y.join.node ≡ x.join.node → y.join.inc ≡ x.join.inc → joining.is_ready x.join ≡ true → q ≤ greatest_asked y
+  pub ask_told : (w : World M) (n : ℕ) (x y : NodeState M) (es : List Effect) (q : ℕ) (u : Update) → Invariant w → w.nodes n ≡ Some x → Grown x y → y.join.view ≡ x.join.view → y.join.node ≡ x.join.node → y.join.inc ≡ x.join.inc → joining.is_ready x.join ≡ true → q ≤ greatest_asked y → Requested w n x.join.inc q u
       → ((r : Entry) (c : ℕ) → Stands w.log r → Has r n x.join.inc q → w.log.count x.join.view.number ≡ Some c → c < r.place) → Pooled (moved w n y es) (packet y (locker_at y) (Ask q u))
-  ask_told w n x y es q u j at gr vw nd ic rd le nb =
+  ask_told w n x y es q u j at gr vw nd ic rd le rq nb =
       let h : NodeOk w n x = j.nodes n x at in
       let nz : x.join.view.number ≢ 0 = h.ready_view rd in
       let here : inc_of x.join.view.members n ≡ x.join.inc = (h.view nz).1 in
@@ -166,4 +177,5 @@ module _ {M : Machine} where
         c.2,
         record { none = λ r s id. nb r c.1 (record { at = s }) (record { node = id.node; inc = id.inc ∙ here; req = id.req }) c.2 },
         record { started = omega (arith, h.inc, here); asks = λ z e same. self_node w n y es (λ (t : NodeState M). q ≤ greatest_asked t) le z e },
+        subst (λ (i : ℕ). Requested w n i q u) (sym here) rq,
       )

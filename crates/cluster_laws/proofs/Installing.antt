@@ -1,5 +1,5 @@
 -- The rule for a view that is installed.
-use Rattle.std.proofs.Common.{◌≡◌, ◌≢◌, ⊎_elim, ℕ, ◌+◌, ◌<◌, ◌≤◌, Bool, true, false, not, ◌&&◌, List, [], ◌∷◌, ◌++◌, length, Option, Some, None, nat_eq, nat_lt, cond, if◌then◌else◌, refl, sym, ap, ◌∙◌, subst, arith}
+use Rattle.std.proofs.Common.{◌≡◌, ◌≢◌, ⊎_elim, ℕ, ◌+◌, ◌<◌, ◌≤◌, Bool, true, false, not, ◌&&◌, List, [], ◌∷◌, ◌++◌, length, take, Option, Some, None, nat_eq, nat_lt, cond, if◌then◌else◌, refl, sym, ap, ◌∙◌, subst, arith}
 use Rattle.std.proofs.lemmas.Bool.{cases_lt}
 use Rattle.gum_messages.specs.declared.member.Member.{Member}
 use Rattle.gum_messages.specs.declared.view.View.{View}
@@ -16,18 +16,19 @@ use Rattle.view_reconcile.specs.declared.step.Step.TheVariants as step
 use Rattle.view_reconcile.specs.Joining.{ReconcileState}
 use Rattle.view_reconcile.specs.Joining as joining
 use Rattle.view_reconcile.specs.Chains.{view_in}
-use Rattle.cluster_rules.specs.Machines.{Machine, registry_at}
+use Rattle.cluster_rules.specs.Machines.{Machine, IsMachine, registry_at}
 use Rattle.cluster_rules.specs.Packets.{Packet, Offer}
-use Rattle.cluster_rules.specs.Nodes.{Effect, NodeState, Offering, Opened, Out, Replica, halts, members_of, nothing, place_of, to_each}
+use Rattle.cluster_rules.specs.Nodes.{Effect, NodeState, Offering, Opened, Out, Replica, done_of, halts, has_state, members_of, nothing, place_of, to_each}
 use Rattle.cluster_rules.specs.Updates.{applied, opens}
-use Rattle.cluster_rules.specs.Joins.{done_within, entered, goes_on, hears, joined, last_of, recovers, shows, takes_view, with_replica}
+use Rattle.cluster_rules.specs.Joins.{done_within, entered, goes_on, hears_itself, joined, last_of, recovers, shows, takes_view, with_replica}
 use Rattle.cluster_rules.specs.Worlds.{Log, Opening, Recovered, Refused, World, absorb, claimed, die_in_install, found_log, install, opening, opens_log, put, raise, stopped, with_log}
 use Rattle.cluster_laws.proofs.Inv.{Entered, Invariant, NodeOk, OwnerOk, Pooled, WasReady}
 use Rattle.cluster_laws.proofs.Moves.{moved, none_told, self_node, told}
-use Rattle.cluster_laws.proofs.Applying.{and_true, eq_true, fold_next, locker_is, locker_not, lt_false, lt_true, next_replica, not_true, replica_next}
-use Rattle.view_reconcile.proofs.Cases.{becomes_ready_cases, is_member_says, offered_cases}
-use Rattle.cluster_laws.proofs.Readying.{Readies, readied, ready_keeps, unready_unopen}
-use Rattle.cluster_laws.proofs.Offering.{place_is}
+use Rattle.cluster_laws.proofs.Applying.{and_true, done_at, eq_true, fold_next, locker_is, locker_not, lt_false, lt_true, next_replica, not_true, replica_next, state_of}
+use Rattle.view_reconcile.proofs.Cases.{becomes_ready_cases, is_member_says}
+use Rattle.cluster_laws.proofs.Readying.{Known, Readies, far_known, readied, ready_keeps, unready_unopen}
+use Rattle.cluster_laws.proofs.Offering.{far_from, next_known, offered_split, place_is}
+use Rattle.cluster_laws.proofs.Applying.{replay_cap}
 use Rattle.cluster_laws.proofs.Opening.{AllWere, each_to, moved_there, no_acks, opens_keeps, two_moves, was_ready_here}
 use Rattle.cluster_laws.proofs.Stopping.{halt_keeps, less_keeps, stop_keeps, without}
 use Rattle.cluster_laws.proofs.Recovering.{ClaimOk, claim_keeps, claim_world, enter_keeps, entered_is, found_keeps, taken_view}
@@ -82,22 +83,23 @@ module _ {M : Machine} where
         members = λ op. absurd (cc);
       }
 
-  pub recovers_readies : (w : World M) (n : ℕ) (x : NodeState M) (o : Offering) (s : Replica M) → Recovers w n x o → s.done ≡ o.count → s.registry ≡ registry_at M w.log.cap w.log.order s.done → Readies w n x s o.last
-  recovers_readies w n x o s k sd rg = record {
+  pub recovers_readies : (w : World M) (n : ℕ) (x : NodeState M) (o : Offering) (s : Replica M) (out : Option M.Outcome) → Recovers w n x o → s.done ≡ o.count → s.registry ≡ registry_at M w.log.cap w.log.order s.done → Known w n x s.done out → Readies w n x s o.last out
+  recovers_readies w n x o s out k sd rg kn = record {
     unready = k.unready;
     view = k.view;
     counted = k.counted ∙ ap (λ (t : ℕ). Some t) (sym (sd ∙ k.count));
     reg = rg;
     last_at = k.last ∙ ap (at_place w.log.order) (sym (sd ∙ k.count));
+    known = kn;
   }
 
   -- it becomes ready and offers, or, alone, opens
-  pub goes_keeps : (w : World M) (n : ℕ) (x z : NodeState M) (o : Offering) (s : Replica M) (out : Option M.Outcome) (t : Stage) → Invariant w → w.nodes n ≡ Some x → Recovers w n x o → s.done ≡ o.count → s.registry ≡ registry_at M w.log.cap w.log.order s.done
+  pub goes_keeps : (w : World M) (n : ℕ) (x z : NodeState M) (o : Offering) (s : Replica M) (out : Option M.Outcome) (t : Stage) → Invariant w → w.nodes n ≡ Some x → Recovers w n x o → s.done ≡ o.count → s.registry ≡ registry_at M w.log.cap w.log.order s.done → Known w n x s.done out
       → joined z o.count o.last (record x.join { stage = stage.Ready }) ≡ readied x s o.last out
       → Invariant (absorb n (goes_on (joined z o.count o.last (joining.becomes_ready (record x.join { stage = t })).0) o (joining.becomes_ready (record x.join { stage = t })).1) w)
-  goes_keeps w n x z o s out t j at k sd rg eq =
+  goes_keeps w n x z o s out t j at k sd rg kn eq =
       let h : NodeOk w n x = j.nodes n x at in
-      let rs : Readies w n x s o.last = recovers_readies w n x o s k sd rg in
+      let rs : Readies w n x s o.last out = recovers_readies w n x o s out k sd rg kn in
       let q : NodeState M = readied x s o.last out in
       let y : NodeState M = joined z o.count o.last (record x.join { stage = stage.Ready }) in
       becomes_ready_cases (λ (r : ReconcileState × Step). Invariant (absorb n (goes_on (joined z o.count o.last r.0) o r.1) w)) (record x.join { stage = t })
@@ -125,13 +127,14 @@ module _ {M : Machine} where
 
   -- the locker hears its own offer
   pub hears_keeps : (w : World M) (n : ℕ) (x : NodeState M) (o : Offering) (done : Option ℕ) → Invariant w → w.nodes n ≡ Some x → Recovers w n x o
-      → ((k : ℕ) → done ≡ Some k → (s : Replica M) × (x.replica ≡ Some s) × (s.done ≡ k))
-      → Invariant (absorb n (hears x o (registry_at M w.log.cap w.log.order o.count) (joining.offered x.join o.count (place_of o.last) done)) w)
-  hears_keeps w n x o done j at k kn =
+      → ((k : ℕ) → done ≡ Some k → (s : Replica M) × (x.replica ≡ Some s) × (s.done ≡ k)) → (has_state x ≡ true → done ≡ Some (done_of x))
+      → Invariant (absorb n (hears_itself x o (registry_at M w.log.cap w.log.order o.count) (joining.offered x.join o.count (place_of o.last) done)) w)
+  hears_keeps w n x o done j at k kn sure_ =
       let h : NodeOk w n x = j.nodes n x at in
       let registry : M.Registry = registry_at M w.log.cap w.log.order o.count in
-      let P : ReconcileState × Step → Type 0 = λ r. Invariant (absorb n (hears x o registry r) w) in
-      offered_cases P x.join o.count (place_of o.last) done
+      let P : ReconcileState × Step → Type 0 = λ r. Invariant (absorb n (hears_itself x o registry r) w) in
+      let ct : w.log.count x.join.view.number ≡ Some o.count = k.counted ∙ ap (λ (c : ℕ). Some c) (sym k.count) in
+      offered_split P x.join o.count (place_of o.last) done
       (λ z. absurd (k.view z))
       (λ z rd. absurd (locker_not (joining.is_ready x.join) rd k.unready))
       (λ z r all.
@@ -139,7 +142,7 @@ module _ {M : Machine} where
       let eq : joined x o.count o.last (record x.join { stage = stage.Ready }) ≡ readied x s.0 o.last x.outcome =
       λ i. record x { join = record x.join { stage = stage.Ready }; replica = s.1 i; last = o.last; offer = None; bytes = []; settled = if shows o.last x then Some (sym s.2 i) else x.settled } in
       let Q : ReconcileState × Step → Type 0 = λ r. Invariant (absorb n (goes_on (joined x o.count o.last r.0) o r.1) w) in
-      let g : Q (joining.becomes_ready x.join) = goes_keeps w n x x o s.0 x.outcome x.join.stage j at k s.2 (h.registry s.0 s.1) eq in
+      let g : Q (joining.becomes_ready x.join) = goes_keeps w n x x o s.0 x.outcome x.join.stage j at k s.2 (h.registry s.0 s.1) (λ a f st id le. h.outcome a f st id (omega (arith, le, done_at x s.0 s.1))) eq in
       becomes_ready_cases (λ (r : ReconcileState × Step). joining.becomes_ready x.join ≡ r → P r) x.join
       (λ a e. subst Q e g) (λ a e. subst Q e g) refl)
       (λ z r d kd next pl.
@@ -154,14 +157,22 @@ module _ {M : Machine} where
       let rg : t.registry ≡ registry_at M w.log.cap w.log.order t.done = ap (λ (g : M.Registry). (M.apply e.0 g).0) (h.registry s.0 s.1) ∙ sym (fold_next M w.log.cap w.log.order s.0.done e.0 here) in
       let taking : ReconcileState = record x.join { stage = stage.Taking } in
       let R : Option Entry → Type 0 = λ l. Invariant (absorb n (elim l [ None ↦ nothing x | Some a ↦ goes_on (joined (applied a x) o.count o.last (joining.taken taking true).0) o (joining.taken taking true).1 ]) w) in
-      subst R (sym e.1) (goes_keeps w n x (applied e.0 x) o t out stage.Taking j at k dn rg eq))
-      (λ z r.
+      subst R (sym e.1) (goes_keeps w n x (applied e.0 x) o t out stage.Taking j at k dn rg (next_known w n x e.0 s.0 j at s.1 here) eq))
+      (λ z r na nl.
+      let far : has_state x ≡ true → done_of x + 1 < o.count = λ hs. far_from w n x o.count o.last done j at k.unready ct (sym (k.last ∙ ap (at_place w.log.order) (sym k.count))) (sure_ hs) na nl in
       let s : Replica M = record { registry = registry; done = o.count } in
       let ps : (record x.join { stage = stage.Taking }, step.Pull 0) ≡ joining.pulls x.join = λ i. (record x.join { stage = if sym k.locker i then stage.Taking else stage.Pulling 0 }, step.Pull 0) in
-      subst P ps (goes_keeps w n x (with_replica x registry o.count) o s x.outcome stage.Taking j at k refl refl refl))
+      subst P ps (goes_keeps w n x (with_replica x registry o.count) o s x.outcome stage.Taking j at k refl refl (far_known w n x o.count j at k.view ct far) refl))
 
-  pub recovers_keeps : (w : World M) (n : ℕ) (x : NodeState M) → Invariant w → w.nodes n ≡ Some x → Recovers w n x (record { count = length w.log.order; cap = w.log.cap; last = last_of w.log.order }) → Invariant (absorb n (recovers x w.log.cap w.log.order) w)
-  recovers_keeps w n x j at k = hears_keeps w n x (record { count = length w.log.order; cap = w.log.cap; last = last_of w.log.order }) (done_within x w.log.cap) j at k (λ d e. within_is x w.log.cap d e)
+  pub recovers_keeps : IsMachine M → (w : World M) (n : ℕ) (x : NodeState M) → Invariant w → w.nodes n ≡ Some x → Recovers w n x (record { count = length w.log.order; cap = w.log.cap; last = last_of w.log.order }) → Invariant (absorb n (recovers x w.log.cap w.log.order) w)
+  recovers_keeps law w n x j at k = hears_keeps w n x (record { count = length w.log.order; cap = w.log.cap; last = last_of w.log.order }) (done_within x w.log.cap) j at k (λ d e. within_is x w.log.cap d e) (λ hs.
+      let s = state_of x hs in
+      let c : M.cap s.0.registry ≡ w.log.cap = ap M.cap ((j.nodes n x at).registry s.0 s.1) ∙ replay_cap law (take s.0.done w.log.order) (M.empty w.log.cap) ∙ law.begins w.log.cap in
+      let g : (a b : ℕ) → a ≡ b → nat_eq a b ≡ true = same_eq in
+      subst (λ (r : Option (Replica M)). (elim r [ None ↦ None | Some r ↦ if nat_eq (M.cap r.registry) w.log.cap then Some r.done else None ]) ≡ Some (done_of x)) (sym s.1) (subst (λ (b : Bool). cond b (Some s.0.done) None ≡ Some (done_of x)) (sym (g (M.cap s.0.registry) w.log.cap c)) (ap (λ (d : ℕ). Some d) (sym (done_at x s.0 s.1)))))
+    where
+      same_eq : (a b : ℕ) → a ≡ b → nat_eq a b ≡ true
+      same_eq a b e = grind arith
 
   -- the claim is above the held one
   pub above : (w : World M) (n : ℕ) (x : NodeState M) (v : View) → Invariant w → w.nodes n ≡ Some x → x.join.view.number < v.number → view_in w.chain v.number ≡ Some v → inc_of v.members n ≡ x.join.inc → locker_of v.members ≡ n → w.log.held ≤ v.number → w.log.held < v.number
@@ -178,9 +189,9 @@ module _ {M : Machine} where
       (cases_lt w.log.held v.number)
 
   -- the log is recovered, and its locker goes on
-  pub found_recovers : (w : World M) (n : ℕ) (x : NodeState M) (v : View) (found : Bool) → Invariant w → w.nodes n ≡ Some x → x.join.view.number < v.number → view_in w.chain v.number ≡ Some v → inc_of v.members n ≡ x.join.inc → is_locker v.members x.join.node ≡ true → w.log.held ≤ v.number
+  pub found_recovers : IsMachine M → (w : World M) (n : ℕ) (x : NodeState M) (v : View) (found : Bool) → Invariant w → w.nodes n ≡ Some x → x.join.view.number < v.number → view_in w.chain v.number ≡ Some v → inc_of v.members n ≡ x.join.inc → is_locker v.members x.join.node ≡ true → w.log.held ≤ v.number
       → Invariant (absorb n (recovers (taken_view v x) w.log.cap (found_log found w.log).order) (with_log (claimed v.number (found_log found w.log)) w))
-  found_recovers w n x v found j at up decl mem lk le =
+  found_recovers law w n x v found j at up decl mem lk le =
       let h : NodeOk w n x = j.nodes n x at in
       let me : locker_of v.members ≡ n = locker_is v.members x.join.node lk ∙ h.node in
       let y : NodeState M = taken_view v x in
@@ -210,7 +221,7 @@ module _ {M : Machine} where
         last = refl;
         counted = put_same l.count v.number (Some (length l.order));
       } in
-      let whole : Invariant (absorb n (recovers y l.cap l.order) w3) = recovers_keeps w3 n y j3 there k in
+      let whole : Invariant (absorb n (recovers y l.cap l.order) w3) = recovers_keeps law w3 n y j3 there k in
       subst (λ (c : ℕ). Invariant (absorb n (recovers y c l.order) (with_log (claimed v.number l) w))) kept_.1
       (subst (λ (u : World M). Invariant u) (two_moves (with_log (claimed v.number l) w) n y [] (recovers y l.cap l.order)) whole)
     where
@@ -229,8 +240,10 @@ module _ {M : Machine} where
       less_keeps w (put w.nodes n None) w.log.doubtful w.log.doubtful_view v.number j (record {
         fewer = λ m z e. (without w n m z e).1;
         waiting = λ m z a s u e. (j.nodes m z (without w n m z e).1).waiting_doubt a s u;
+        near = λ m z r e. (j.nodes m z (without w n m z e).1).near_doubt r;
         doubt = j.log.doubt;
         doubt_view = j.log.doubt_view;
+        doubt_requested = j.log.doubt_requested;
         doubt_held = λ r e. omega (arith, j.log.doubt_held r e);
         doubt_last = j.log.doubt_last;
         doubt_recovered = j.log.doubt_recovered;
@@ -256,19 +269,19 @@ module _ {M : Machine} where
       let a = and_true (nat_lt x.join.view.number v.number) (is_member v.members x.join.node x.join.inc) g in
       (lt_true x.join.view.number v.number a.0, ap (inc_of v.members) (sym h.node) ∙ (is_member_says v x.join.node x.join.inc a.1).1)
 
-  recover_keeps : (w : World M) (n : ℕ) (x : NodeState M) (v : View) (opening : Opening) → Invariant w → w.nodes n ≡ Some x → takes_view x v ≡ true → x.join.view.number < v.number → view_in w.chain v.number ≡ Some v → inc_of v.members n ≡ x.join.inc → is_locker v.members x.join.node ≡ true → w.log.held ≤ v.number
+  recover_keeps : IsMachine M → (w : World M) (n : ℕ) (x : NodeState M) (v : View) (opening : Opening) → Invariant w → w.nodes n ≡ Some x → takes_view x v ≡ true → x.join.view.number < v.number → view_in w.chain v.number ≡ Some v → inc_of v.members n ≡ x.join.inc → is_locker v.members x.join.node ≡ true → w.log.held ≤ v.number
       → Invariant (elim opening [
         | Recovered found ↦ absorb n (recovers (entered v x) w.log.cap (found_log found w.log).order) (with_log (claimed v.number (found_log found w.log)) w)
         | Refused raised ↦ absorb n halts (with_log (raise raised v.number w.log) w)
       ])
-  recover_keeps w n x v (Recovered found) j at g up decl mem lk le =
-      subst (λ (y : NodeState M). Invariant (absorb n (recovers y w.log.cap (found_log found w.log).order) (with_log (claimed v.number (found_log found w.log)) w))) (sym (entered_is x v g)) (found_recovers w n x v found j at up decl mem lk le)
-  recover_keeps w n x v (Refused raised) j at g up decl mem lk le =
+  recover_keeps law w n x v (Recovered found) j at g up decl mem lk le =
+      subst (λ (y : NodeState M). Invariant (absorb n (recovers y w.log.cap (found_log found w.log).order) (with_log (claimed v.number (found_log found w.log)) w))) (sym (entered_is x v g)) (found_recovers law w n x v found j at up decl mem lk le)
+  recover_keeps law w n x v (Refused raised) j at g up decl mem lk le =
       let me : locker_of v.members ≡ n = locker_is v.members x.join.node lk ∙ (j.nodes n x at).node in
       halt_keeps (with_log (raise raised v.number w.log) w) n (raise_keeps w n x v raised j at up decl mem me le)
 
-  pub install_keeps : (w : World M) (n : ℕ) (x : NodeState M) (v : View) (opening : Opening) → Invariant w → w.nodes n ≡ Some x → view_in w.chain v.number ≡ Some v → Invariant (install w n x v opening)
-  install_keeps w n x v opening j at decl =
+  pub install_keeps : IsMachine M → (w : World M) (n : ℕ) (x : NodeState M) (v : View) (opening : Opening) → Invariant w → w.nodes n ≡ Some x → view_in w.chain v.number ≡ Some v → Invariant (install w n x v opening)
+  install_keeps law w n x v opening j at decl =
       let P : World M → Type 0 = λ u. Invariant u in
       if_cases P (takes_view x v) _ _
       (λ g.
@@ -276,7 +289,7 @@ module _ {M : Machine} where
       if_cases P (is_locker v.members x.join.node) _ _
       (λ lk. if_cases P (nat_lt v.number w.log.held) _ _
       (λ f. halt_keeps w n (stop_keeps w n j))
-      (λ f. recover_keeps w n x v opening j at g s.0 decl s.1 lk (lt_false v.number w.log.held f)))
+      (λ f. recover_keeps law w n x v opening j at g s.0 decl s.1 lk (lt_false v.number w.log.held f)))
       (λ lk. subst (λ (y : NodeState M). Invariant (absorb n (nothing y) w)) (sym (entered_is x v g)) (enter_keeps w n x v j at s.0 decl s.1)))
       (λ g. j)
 

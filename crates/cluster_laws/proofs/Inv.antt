@@ -1,10 +1,11 @@
 -- The invariants of the world.
-use Rattle.std.proofs.Common.{◌≡◌, ◌≢◌, ℕ, ◌+◌, ◌<◌, ◌≤◌, true, false, List, [], ◌∷◌, length, take, drop, Option, Some, None, slice_get}
+use Rattle.std.proofs.Common.{◌≡◌, ◌≢◌, ℕ, ◌+◌, ◌-◌, ◌<◌, ◌≤◌, true, false, List, [], ◌∷◌, length, take, drop, Option, Some, None, slice_get}
 use Rattle.gum_messages.specs.declared.member.Member.{Member}
 use Rattle.gum_messages.specs.declared.view.View.{View}
 use Rattle.gum_messages.specs.Members.{inc_of, locker_of, spread_of}
 use Rattle.gum_messages.specs.Places.{at_place}
 use Rattle.update_records.specs.Entry.{Entry}
+use Rattle.update_records.specs.declared.update.Update.{Update}
 use Rattle.gum_core.specs.declared.lock.Lock.{Lock}
 use Rattle.gum_core.specs.declared.spreading.Spreading.{Spreading}
 use Rattle.gum_core.specs.Updating.{greatest_of}
@@ -12,13 +13,13 @@ use Rattle.view_reconcile.specs.declared.stage.Stage.TheVariants as stage
 use Rattle.view_reconcile.specs.Joining.{ReconcileState}
 use Rattle.view_reconcile.specs.Joining as joining
 use Rattle.view_reconcile.specs.Chains.{IsChain, view_in}
-use Rattle.cluster_rules.specs.Machines.{Machine, registry_at}
+use Rattle.cluster_rules.specs.Machines.{Machine, outcome_at, registry_at}
 use Rattle.cluster_rules.specs.Packets.{Body, Packet, Ask, Granted, Apply, Applied, Release, Offer, Need, Piece, Ready, OpenView}
 use Rattle.cluster_rules.specs.Nodes.{NodeState, Offering, Replica, done_of, has_state}
 use Rattle.cluster_rules.specs.Worlds.{Log, World}
 
 module _ {M : Machine} where
-  -- WHAT ONCE TRUE STAYS TRUE, of one incarnation of a node, where it runs
+  -- What once true stays true, of one incarnation of a node, where it runs
 
   -- it has applied the first k records
   pub record Reached (w : World M) (n i k : ℕ) : Type 0 where
@@ -41,6 +42,10 @@ module _ {M : Machine} where
   pub record Asked (w : World M) (n i req : ℕ) : Type 0 where
     pub started : i ≤ w.starts n
     pub asks : (x : NodeState M) → w.nodes n ≡ Some x → x.join.inc ≡ i → req ≤ greatest_asked x
+
+  -- the update of a request
+  abbrev pub Requested : World M → ℕ → ℕ → ℕ → Update → Type 0
+  Requested w n i q u = at_place (w.requests n i) q ≡ Some u
 
   -- it has come to this view
   pub record Entered (w : World M) (n i v : ℕ) : Type 0 where
@@ -91,10 +96,10 @@ module _ {M : Machine} where
   abbrev pub state_bytes : World M → ℕ → List ℕ
   state_bytes w c = M.encode (registry_at M w.log.cap w.log.order c)
 
-  -- MESSAGES
+  -- Messages
   abbrev pub MsgOk : World M → View → ℕ → ℕ → Body → Type 0
   MsgOk w v from to (Ask req u) =
-      (c : ℕ) × (w.log.count v.number ≡ Some c) × NotBefore w.log from (inc_of v.members from) req c × Asked w from (inc_of v.members from) req
+      (c : ℕ) × (w.log.count v.number ≡ Some c) × NotBefore w.log from (inc_of v.members from) req c × Asked w from (inc_of v.members from) req × Requested w from (inc_of v.members from) req u
   MsgOk w v from to (Granted r) = LoggedIn w.log r v.number × (r.id.node ≡ to) × (r.id.inc ≡ inc_of v.members to) × Reached w (locker_of v.members) (inc_of v.members (locker_of v.members)) r.place
   MsgOk w v from to (Apply r) = LoggedIn w.log r v.number
   MsgOk w v from to (Applied k) = Reached w from (inc_of v.members from) k
@@ -113,7 +118,7 @@ module _ {M : Machine} where
     pub number : view.number ≡ p.view
     pub ok : MsgOk w view p.from p.to p.body
 
-  -- ONE NODE
+  -- One node
   pub record NodeOk (w : World M) (n : ℕ) (x : NodeState M) : Type 0 where
     pub node : x.join.node ≡ n
     pub inc : x.join.inc ≡ w.starts n
@@ -154,10 +159,21 @@ module _ {M : Machine} where
     pub waiting : (r s : Entry) (u : View) → waits x → Stands w.log r → Has r n x.join.inc (at_head x) → Stands w.log s → r.place < s.place → view_in w.chain (w.log.view_at s.place) ≡ Some u → inc_of u.members n ≢ x.join.inc
     pub waiting_doubt : (r s : Entry) (u : View) → waits x → Stands w.log r → Has r n x.join.inc (at_head x) → w.log.doubtful ≡ Some s → view_in w.chain w.log.doubtful_view ≡ Some u → inc_of u.members n ≢ x.join.inc
     pub behind : (r : Entry) (c : ℕ) → waits x → Stands w.log r → Has r n x.join.inc (at_head x) → joining.is_ready x.join ≡ true → w.log.count x.join.view.number ≡ Some c → c < r.place
+    -- its waiting head's record is the next one or an applied one
+    pub near_head : (r : Entry) → waits x → Stands w.log r → Has r n x.join.inc (at_head x) → r.place ≤ done_of x + 1
+    pub near_doubt : (r : Entry) → waits x → w.log.doubtful ≡ Some r → Has r n x.join.inc (at_head x) → length w.log.order ≤ done_of x
+    pub full_state : x.core.queue ≢ [] → has_state x ≡ true
+    -- who pulls with a state is two records away or more
+    pub pulling : (o : Offering) → x.offer ≡ Some o → has_state x ≡ true → done_of x + 1 < o.count
+    -- what came of the head is kept once its record was applied
+    pub outcome : (r : Entry) → x.core.queue ≢ [] → Stands w.log r → Has r n x.join.inc (at_head x) → r.place ≤ done_of x → x.outcome ≡ Some (outcome_at M w.log.cap w.log.order (r.place - 1) r)
+    -- the queued updates are those of the requests behind the ones that left
+    pub queued : (k : ℕ) (u : Update) → slice_get x.core.queue k ≡ Some u → Requested w n x.join.inc (x.core.passed + (k + 1)) u
+    pub all_requests : length (w.requests n x.join.inc) ≡ x.core.passed + length x.core.queue
     -- acks and finished requests: each request that it finished was acknowledged
     pub finished : (q : ℕ) → 1 ≤ q → q ≤ x.core.passed → (r : Entry) × (a v : ℕ) × Stands w.log r × Has r n x.join.inc q × (slice_get w.acks a ≡ Some (v, r.place)) × (v ≤ x.join.view.number)
 
-  -- A LOCKER THAT OWNS THE LOG
+  -- A locker that owns the log
   pub record Owner (w : World M) (n : ℕ) (x : NodeState M) : Type 0 where
     pub runs : w.nodes n ≡ Some x
     pub ready : joining.is_ready x.join ≡ true
@@ -181,7 +197,7 @@ module _ {M : Machine} where
     -- lock and members
     pub members : joining.is_open x.join ≡ true → (m : ℕ) (y : NodeState M) → w.nodes m ≡ Some y → inc_of x.join.view.members m ≡ y.join.inc → MemberOk w.log x.core.lock m y
 
-  -- THE LOG'S HISTORY
+  -- The log's history
   pub record LogOk (w : World M) : Type 0 where
     pub places : (k : ℕ) (r : Entry) → at_place w.log.order k ≡ Some r → r.place ≡ k
     -- ids of taken calls
@@ -190,6 +206,10 @@ module _ {M : Machine} where
     pub logged : (r : Entry) → Stands w.log r → (u : View) × (view_in w.chain (w.log.view_at r.place) ≡ Some u) × (r.id.inc ≡ inc_of u.members r.id.node) × (0 < r.id.inc)
     pub doubt : (r : Entry) → w.log.doubtful ≡ Some r → (r.place ≡ length w.log.order + 1) × (1 ≤ r.id.req) × Asked w r.id.node r.id.inc r.id.req × NotBefore w.log r.id.node r.id.inc r.id.req (length w.log.order)
     pub doubt_view : (r : Entry) → w.log.doubtful ≡ Some r → (u : View) × (view_in w.chain w.log.doubtful_view ≡ Some u) × (r.id.inc ≡ inc_of u.members r.id.node) × (0 < r.id.inc)
+    -- each record is the update of its request
+    pub requested : (r : Entry) → Stands w.log r → Requested w r.id.node r.id.inc r.id.req r.update
+    pub doubt_requested : (r : Entry) → w.log.doubtful ≡ Some r → Requested w r.id.node r.id.inc r.id.req r.update
+    pub unasked : (n i : ℕ) → w.starts n < i → length (w.requests n i) ≡ 0
     -- counts of views
     pub counts : (v c : ℕ) → w.log.count v ≡ Some c → (c ≤ length w.log.order) × (v ≤ w.log.held) × (u : View) × (view_in w.chain v ≡ Some u) × Entered w (locker_of u.members) (inc_of u.members (locker_of u.members)) v
     -- each record was logged in a view whose log had been recovered
@@ -206,7 +226,7 @@ module _ {M : Machine} where
     pub bounds : (v c : ℕ) (r : Entry) → w.log.count v ≡ Some c → Stands w.log r → w.log.view_at r.place < v → r.place ≤ c
     pub held : w.log.held ≢ 0 → (u : View) × (view_in w.chain w.log.held ≡ Some u) × Entered w (locker_of u.members) (inc_of u.members (locker_of u.members)) w.log.held
 
-  -- ACKNOWLEDGEMENTS
+  -- Acknowledgements
   pub record AckOk (w : World M) (v k : ℕ) : Type 0 where
     pub view : View
     pub declared : view_in w.chain v ≡ Some view

@@ -19,3 +19,4 @@ pub mod Starting
 pub mod Ticking
 pub mod Lockers
 pub mod Theorem
+pub mod Points

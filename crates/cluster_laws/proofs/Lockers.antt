@@ -16,8 +16,8 @@ use Rattle.view_reconcile.specs.Joining as joining
 use Rattle.cluster_rules.specs.Machines.{Machine, registry_at}
 use Rattle.cluster_rules.specs.Packets.{Body, Packet, Ask, Granted, Apply, Applied, Release, Offer, Need, Piece, Ready, OpenView}
 use Rattle.cluster_rules.specs.Nodes.{NodeState, Offering, Out, done_of, halts, locker_at, nothing, number_of, place_of, tells}
-use Rattle.cluster_rules.specs.Updates.{Answer, InDoubt, Logged, Unwritten, Written, answers, applied, applies, begins, entry_for, has_logged, left, may_submit, on_applied, on_apply, on_ask, on_granted, opens, proceeds, submit, unlogged}
-use Rattle.cluster_rules.specs.Joins.{counts, done_within, entered, follows, gathers, goes_on, hears, joined, known_done, last_of, on_need, on_offer, on_open_view, on_piece, on_ready, piece, recovers, says_ready, sends_piece, takes_view, with_replica}
+use Rattle.cluster_rules.specs.Updates.{Answer, InDoubt, Logged, Unwritten, Written, answers, applied, applies, begins, entry_for, has_logged, without_head, may_submit, on_applied, on_apply, on_ask, on_granted, opens, proceeds, submit, unlogged}
+use Rattle.cluster_rules.specs.Joins.{done_within, entered, follows, gathers, goes_on, hears_itself, joined, known_done, last_of, marks_ready, on_need, on_offer, on_open_view, on_piece, on_ready, piece, recovers, says_ready, sends_piece, takes_view, with_replica}
 use Rattle.cluster_rules.specs.Receiving.{checkpoint, clock, receive, tick}
 use Rattle.cluster_rules.specs.Receiving as receiving
 use Rattle.cluster_rules.specs.Worlds.{Opening, Recovered, Refused, World, absorb, claimed, found_log, install, opening, put, raise, with_log}
@@ -59,7 +59,7 @@ module _ {M : Machine} where
   pub stays_halts : (x : NodeState M) → StaysAt x None
   stays_halts x y e = absurd (cc)
 
-  -- GLOBAL UPDATE
+  -- Global update
   pub submit_stays : (x : NodeState M) (u : Update) → Stays x (submit x u)
   submit_stays x u = if_cases (λ (o : Out M). Stays x o) (may_submit x) _ _ (λ g. stays_same x (record x { core = (updating.submitted x.core u).0 }) refl) (λ g. stays_same x x refl)
 
@@ -67,11 +67,11 @@ module _ {M : Machine} where
   begins_stays x y f = core_opened_cases (λ (t : CoreState × Decision). StaysAt x (begins y t).node) y.core y.settled
       (λ e. stays_as x (record y { core = record y.core { is_open = true } }) f)
       (λ some none. stays_as x (record y { core = record y.core { is_open = true } }) f)
-      (λ some k set_. stays_as x (left y (updating.finished (record y.core { is_open = true }) k).0) f)
+      (λ some k set_. stays_as x (without_head y (updating.finished (record y.core { is_open = true }) k).0) f)
 
   pub proceeds_stays : (x : NodeState M) (e : Entry) (place at : ℕ) → Stays x (proceeds x e (updating.spread x.core place at))
   proceeds_stays x e place at = spread_cases (λ (t : CoreState × Decision). Stays x (proceeds x e t)) x.core place at
-      (λ none. stays_same x (left x (updating.finished x.core place).0) refl)
+      (λ none. stays_same x (without_head x (updating.finished x.core place).0) refl)
       (λ to there. stays_same x (record x { core = record x.core { spreading = Some (record { place = place; at = at }) }; spreads = Some e }) refl)
 
   pub granted_stays : (x : NodeState M) (e : Entry) → Stays x (on_granted x e)
@@ -103,7 +103,7 @@ module _ {M : Machine} where
       (λ a b c d e. if_cases (λ (l : Logged M). Stays x l.out) (nat_lt (number_of x) held) _ _ (λ f. stays_halts x) (λ f. answer_stays x (entry_for x from q u) answer))
       (λ a b l c d e. option_cases (λ (o : Out M). Stays x o) x.last (nothing x) (λ t. tells x from (Granted t)) (λ none. stays_same x x refl) (λ t some. stays_same x x refl))
 
-  -- JOINING
+  -- Joining
   pub offer_stays : (x : NodeState M) (from : ℕ) (o : Offering) → Stays x (on_offer x from o)
   offer_stays x from o =
       let P : Out M → Type 0 = λ a. Stays x a in
@@ -154,7 +154,7 @@ module _ {M : Machine} where
       (λ registry there. stays_as x (joined (with_replica x registry o.count) o.count o.last (joining.taken s true).0) (taken_follows x.join stage.Taking))))
 
   pub ready_stays : (x : NodeState M) (from : ℕ) → Stays x (on_ready x from)
-  ready_stays x from = readied_cases (λ (r : ReconcileState × Step). Stays x (counts x r)) x.join from
+  ready_stays x from = readied_cases (λ (r : ReconcileState × Step). Stays x (marks_ready x r)) x.join from
       (λ l. stays_same x x refl)
       (λ l o. stays_same x x refl)
       (λ l o a. begins_stays x (record x { join = record (joining.marked x.join from) { stage = stage.Open } }) (refl, refl, λ l r. refl))
@@ -189,7 +189,7 @@ module _ {M : Machine} where
       (λ g. if_cases P (nat_lt (number_of x) held) _ _ (λ f. stays_halts x) (λ f. if_cases P good _ _ (λ b. stays_same x x refl) (λ b. stays_halts x)))
       (λ g. stays_same x x refl)
 
-  -- RECOVERY
+  -- Recovery
   abbrev pub IsReady : Option (NodeState M) → Type 0
   IsReady o = (y : NodeState M) → o ≡ Some y → joining.is_ready y.join ≡ true
 
@@ -200,7 +200,7 @@ module _ {M : Machine} where
   opens_ready y r = core_opened_cases (λ (t : CoreState × Decision). IsReady (begins y t).node) y.core y.settled
       (λ e. ready_as (record y { core = record y.core { is_open = true } }) r)
       (λ some none. ready_as (record y { core = record y.core { is_open = true } }) r)
-      (λ some k set_. ready_as (left y (updating.finished (record y.core { is_open = true }) k).0) r)
+      (λ some k set_. ready_as (without_head y (updating.finished (record y.core { is_open = true }) k).0) r)
 
   pub goes_ready : (x z : NodeState M) (o : Offering) (t : Stage) → IsReady (goes_on (joined z o.count o.last (joining.becomes_ready (record x.join { stage = t })).0) o (joining.becomes_ready (record x.join { stage = t })).1).node
   goes_ready x z o t = becomes_ready_cases (λ (r : ReconcileState × Step). IsReady (goes_on (joined z o.count o.last r.0) o r.1).node) (record x.join { stage = t })
@@ -211,7 +211,7 @@ module _ {M : Machine} where
   recovers_ready x cap order nz nr =
       let o : Offering = record { count = length order; cap = cap; last = last_of order } in
       let registry : M.Registry = registry_at M cap order (length order) in
-      let P : ReconcileState × Step → Type 0 = λ r. IsReady (hears x o registry r).node in
+      let P : ReconcileState × Step → Type 0 = λ r. IsReady (hears_itself x o registry r).node in
       offered_cases P x.join o.count (place_of o.last) (done_within x cap)
       (λ z. absurd (nz z))
       (λ z rd. absurd (locker_not (joining.is_ready x.join) rd nr))

@@ -83,6 +83,13 @@ module _ {M : Machine} where
           waiting = h.waiting;
           waiting_doubt = h.waiting_doubt;
           behind = h.behind;
+          near_head = h.near_head;
+          near_doubt = h.near_doubt;
+          full_state = h.full_state;
+          pulling = h.pulling;
+          outcome = h.outcome;
+          queued = h.queued;
+          all_requests = h.all_requests;
           finished = h.finished;
           lock = λ t e. absurd (cc);
         });

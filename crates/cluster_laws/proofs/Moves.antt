@@ -1,8 +1,10 @@
 -- A world in which one node has moved and messages were sent, its log as before.
-use Rattle.std.proofs.Common.{◌≡◌, ◌≢◌, ◌⊎◌, inl, inr, ⊎_elim, ℕ, zero, suc, ◌<◌, ◌≤◌, true, List, [], ◌∷◌, ◌++◌, length, Option, Some, slice_get, unwrap_or, refl, sym, ap, ◌∙◌, subst, arith}
+use Rattle.std.proofs.Common.{◌≡◌, ◌≢◌, ◌⊎◌, inl, inr, ⊎_elim, ℕ, zero, suc, ◌+◌, ◌<◌, ◌≤◌, true, List, [], ◌∷◌, ◌++◌, length, Option, Some, slice_get, unwrap_or, refl, sym, ap, ◌∙◌, subst, arith}
 use Rattle.gum_messages.specs.declared.member.Member.{Member}
 use Rattle.gum_messages.specs.declared.view.View.{View}
 use Rattle.gum_messages.specs.Members.{inc_of, is_locker, locker_of, index_of}
+use Rattle.gum_messages.specs.Places.{at_place}
+use Rattle.update_records.specs.declared.update.Update.{Update}
 use Rattle.gum_core.specs.declared.lock.Lock.{Lock}
 use Rattle.gum_core.specs.Updating.{greatest_of}
 use Rattle.view_reconcile.specs.Joining.{ReconcileState}
@@ -12,7 +14,7 @@ use Rattle.cluster_rules.specs.Machines.{Machine}
 use Rattle.cluster_rules.specs.Packets.{Body, Packet}
 use Rattle.cluster_rules.specs.Nodes.{Effect, NodeState, Out, Send, becomes, done_of, nothing, packet, tells}
 use Rattle.cluster_rules.specs.Worlds.{World, absorb, acked, put, sent}
-use Rattle.cluster_laws.proofs.Inv.{AckOk, Invariant, LogOk, MemberOk, MsgOk, NodeOk, Owner, OwnerOk, Pooled, Reached}
+use Rattle.cluster_laws.proofs.Inv.{AckOk, Invariant, LogOk, MemberOk, MsgOk, NodeOk, Owner, OwnerOk, Pooled, Reached, Requested}
 use Rattle.cluster_laws.proofs.Stable.{AskedOnly, Ext, Grown, all_reached, asked_, entered_, grown_refl, longer_refl, pooled, reached, was_ready}
 
 pub put_cases : {A : Type 0} (f : ℕ → Option A) (n : ℕ) (v : Option A) (m : ℕ) (z : A) → put f n v m ≡ Some z → ((m ≡ n) × (v ≡ Some z)) ⊎ ((m ≢ n) × (f m ≡ Some z))
@@ -59,78 +61,104 @@ module _ {M : Machine} where
   pub at_self : (P : ℕ → NodeState M → Type 0) (a n : ℕ) (y b : NodeState M) → a ≡ n → Some y ≡ Some b → P n y → P a b
   at_self P a n y b e f p = let g : y ≡ b = cc in subst (λ (t : NodeState M). P a t) g (subst (λ (t : ℕ). P t y) (sym e) p)
 
-  pub ext_absorb : (w : World M) (n : ℕ) (x y : NodeState M) (es : List Effect) → w.nodes n ≡ Some x → Grown x y → Ext w (moved w n y es)
-  ext_absorb w n x y es at g = record {
+  -- the world in which it also took requests
+  abbrev pub with_requests : World M → (ℕ → ℕ → List Update) → World M
+  with_requests w rq = record w { requests = rq }
+
+  pub ext_on : (w : World M) (rq : ℕ → ℕ → List Update) (n : ℕ) (x y : NodeState M) (es : List Effect) → ((m i q : ℕ) (u : Update) → Requested w m i q u → at_place (rq m i) q ≡ Some u) → w.nodes n ≡ Some x → Grown x y → Ext w (moved (with_requests w rq) n y es)
+  ext_on w rq n x y es more at g = record {
     log = longer_refl w.log;
     chain = λ v u e. e;
     starts = λ m. omega arith;
+    requests = more;
     nodes = λ m z e s. ⊎_elim
         (λ (c : (m ≡ n) × (Some y ≡ Some z)). (x, ap w.nodes c.0 ∙ at, let q : y ≡ z = cc in subst (λ (t : NodeState M). Grown x t) q g))
         (λ (c : (m ≢ n) × (w.nodes m ≡ Some z)). (z, c.1, grown_refl z))
         (put_cases w.nodes n (Some y) m z e);
   }
 
+  pub ext_absorb : (w : World M) (n : ℕ) (x y : NodeState M) (es : List Effect) → w.nodes n ≡ Some x → Grown x y → Ext w (moved w n y es)
+  ext_absorb w n x y es at g = ext_on w w.requests n x y es (λ m i q u e. e) at g
+
   -- what holds of a node stays, where its world grows and has the same log
+  pub node_on : (w : World M) (rq : ℕ → ℕ → List Update) (n : ℕ) (o : Out M) (m : ℕ) (y : NodeState M) → Ext w (absorb n o (with_requests w rq)) → AskedOnly w → length (rq m y.join.inc) ≡ length (w.requests m y.join.inc) → NodeOk w m y → NodeOk (absorb n o (with_requests w rq)) m y
+  node_on w rq n o m y e a same h =
+      let w' : World M = absorb n o (with_requests w rq) in record {
+        node = h.node;
+        inc = h.inc;
+        positive = h.positive;
+        core_node = h.core_node;
+        core_members = h.core_members;
+        core_open = h.core_open;
+        entries = h.entries;
+        view = h.view;
+        peopled = h.peopled;
+        ready_view = h.ready_view;
+        within = h.within;
+        registry = h.registry;
+        last = h.last;
+        ready_state = h.ready_state;
+        below = h.below;
+        unready = h.unready;
+        pull = h.pull;
+        pulled = h.pulled;
+        closed = h.closed;
+        lock = h.lock;
+        idle = h.idle;
+        settled = h.settled;
+        unsettled = h.unsettled;
+        waiting = h.waiting;
+        waiting_doubt = h.waiting_doubt;
+        behind = h.behind;
+        near_head = h.near_head;
+        near_doubt = h.near_doubt;
+        full_state = h.full_state;
+        pulling = h.pulling;
+        outcome = h.outcome;
+        queued = λ k u f. e.requests m y.join.inc (y.core.passed + (k + 1)) u (h.queued k u f);
+        all_requests = same ∙ h.all_requests;
+        marked = λ b c p. was_ready w w' b (inc_of y.join.view.members b) y.join.view.number e a (h.marked b c p);
+        all_ready = λ c b p. was_ready w w' b (inc_of y.join.view.members b) y.join.view.number e a (h.all_ready c b p);
+        spreading = λ s c.
+            let t = h.spreading s c in
+            (t.0, t.1, t.2, t.3, t.4, t.5, reached w w' (locker_of y.join.view.members) (inc_of y.join.view.members (locker_of y.join.view.members)) t.0.place e t.6, λ j b l f. reached w w' b.node (inc_of y.join.view.members b.node) t.0.place e (t.7 j b l f));
+        finished = λ q p b. let f = h.finished q p b in
+            (f.0, f.1, f.2, f.3, f.4, slice_get_front w.acks (acked o.effects) f.1 (f.2, f.0.place) f.5, f.6);
+      }
+
   pub node_stays : (w : World M) (n : ℕ) (o : Out M) (m : ℕ) (y : NodeState M) → Ext w (absorb n o w) → AskedOnly w → NodeOk w m y → NodeOk (absorb n o w) m y
-  node_stays w n o m y e a h = record {
-    node = h.node;
-    inc = h.inc;
-    positive = h.positive;
-    core_node = h.core_node;
-    core_members = h.core_members;
-    core_open = h.core_open;
-    entries = h.entries;
-    view = h.view;
-    peopled = h.peopled;
-    ready_view = h.ready_view;
-    within = h.within;
-    registry = h.registry;
-    last = h.last;
-    ready_state = h.ready_state;
-    below = h.below;
-    unready = h.unready;
-    pull = h.pull;
-    pulled = h.pulled;
-    closed = h.closed;
-    lock = h.lock;
-    idle = h.idle;
-    settled = h.settled;
-    unsettled = h.unsettled;
-    waiting = h.waiting;
-    waiting_doubt = h.waiting_doubt;
-    behind = h.behind;
-    marked = λ b c p. was_ready w (absorb n o w) b (inc_of y.join.view.members b) y.join.view.number e a (h.marked b c p);
-    all_ready = λ c b p. was_ready w (absorb n o w) b (inc_of y.join.view.members b) y.join.view.number e a (h.all_ready c b p);
-    spreading = λ s c.
-        let t = h.spreading s c in
-        (t.0, t.1, t.2, t.3, t.4, t.5, reached w (absorb n o w) (locker_of y.join.view.members) (inc_of y.join.view.members (locker_of y.join.view.members)) t.0.place e t.6, λ j b l f. reached w (absorb n o w) b.node (inc_of y.join.view.members b.node) t.0.place e (t.7 j b l f));
-    finished = λ q p b. let f = h.finished q p b in
-        (f.0, f.1, f.2, f.3, f.4, slice_get_front w.acks (acked o.effects) f.1 (f.2, f.0.place) f.5, f.6);
-  }
+  node_stays w n o m y e a h = node_on w w.requests n o m y e a refl h
+
+  pub log_on : (w : World M) (rq : ℕ → ℕ → List Update) (n : ℕ) (o : Out M) → Ext w (absorb n o (with_requests w rq)) → ((m i : ℕ) → w.starts m < i → length (rq m i) ≡ 0) → LogOk w → LogOk (absorb n o (with_requests w rq))
+  log_on w rq n o e un h =
+      let w' : World M = absorb n o (with_requests w rq) in record {
+        places = h.places;
+        ids = h.ids;
+        logged = h.logged;
+        doubt_view = h.doubt_view;
+        recovered = h.recovered;
+        doubt_recovered = h.doubt_recovered;
+        rising = h.rising;
+        early = h.early;
+        ordered = h.ordered;
+        by_held = h.by_held;
+        doubt_held = h.doubt_held;
+        doubt_last = h.doubt_last;
+        doubt_low = h.doubt_low;
+        bounds = h.bounds;
+        asked = λ r s. ((h.asked r s).0, asked_ w w' r.id.node r.id.inc r.id.req e (h.asked r s).1);
+        doubt = λ r s. let a = h.doubt r s in (a.0, a.1, asked_ w w' r.id.node r.id.inc r.id.req e a.2, a.3);
+        requested = λ r s. e.requests r.id.node r.id.inc r.id.req r.update (h.requested r s);
+        doubt_requested = λ r s. e.requests r.id.node r.id.inc r.id.req r.update (h.doubt_requested r s);
+        unasked = un;
+        counts = λ v c s. let a = h.counts v c s in
+            (a.0, a.1, a.2, a.3, entered_ w w' (locker_of a.2.members) (inc_of a.2.members (locker_of a.2.members)) v e a.4);
+        held = λ s. let a = h.held s in
+            (a.0, a.1, entered_ w w' (locker_of a.0.members) (inc_of a.0.members (locker_of a.0.members)) w.log.held e a.2);
+      }
 
   pub log_stays : (w : World M) (n : ℕ) (o : Out M) → Ext w (absorb n o w) → LogOk w → LogOk (absorb n o w)
-  log_stays w n o e h = record {
-    places = h.places;
-    ids = h.ids;
-    logged = h.logged;
-    doubt_view = h.doubt_view;
-    recovered = h.recovered;
-    doubt_recovered = h.doubt_recovered;
-    rising = h.rising;
-    early = h.early;
-    ordered = h.ordered;
-    by_held = h.by_held;
-    doubt_held = h.doubt_held;
-    doubt_last = h.doubt_last;
-    doubt_low = h.doubt_low;
-    bounds = h.bounds;
-    asked = λ r s. ((h.asked r s).0, asked_ w (absorb n o w) r.id.node r.id.inc r.id.req e (h.asked r s).1);
-    doubt = λ r s. let a = h.doubt r s in (a.0, a.1, asked_ w (absorb n o w) r.id.node r.id.inc r.id.req e a.2, a.3);
-    counts = λ v c s. let a = h.counts v c s in
-        (a.0, a.1, a.2, a.3, entered_ w (absorb n o w) (locker_of a.2.members) (inc_of a.2.members (locker_of a.2.members)) v e a.4);
-    held = λ s. let a = h.held s in
-        (a.0, a.1, entered_ w (absorb n o w) (locker_of a.0.members) (inc_of a.0.members (locker_of a.0.members)) w.log.held e a.2);
-  }
+  log_stays w n o e h = log_on w w.requests n o e h.unasked h
 
   pub ack_stays : (w : World M) (n : ℕ) (o : Out M) (v k : ℕ) → Ext w (absorb n o w) → AckOk w v k → AckOk (absorb n o w) v k
   ack_stays w n o v k e h = record { view = h.view; declared = h.declared; place = h.place; later = h.later; members = all_reached w (absorb n o w) h.view.members k e h.members }
@@ -139,25 +167,25 @@ module _ {M : Machine} where
   node_in w n x y es j at g h = node_stays w n (becomes y es) n y (ext_absorb w n x y es at g) (λ r s. (j.log.asked r s).1) h
 
   -- what a rule owes that moves one node and leaves the log
-  pub record MoveOk (w : World M) (n : ℕ) (x y : NodeState M) (es : List Effect) : Type 0 where
+  pub record MoveOk (w : World M) (rq : ℕ → ℕ → List Update) (n : ℕ) (x y : NodeState M) (es : List Effect) : Type 0 where
     pub grown : Grown x y
-    pub node : NodeOk (moved w n y es) n y
-    pub messages : (k : ℕ) (p : Packet) → slice_get (sent es) k ≡ Some p → Pooled (moved w n y es) p
-    pub acks : (k v p : ℕ) → slice_get (acked es) k ≡ Some (v, p) → AckOk (moved w n y es) v p
-    pub owner : Owner (moved w n y es) n y → OwnerOk (moved w n y es) n y
+    pub node : NodeOk (moved (with_requests w rq) n y es) n y
+    pub messages : (k : ℕ) (p : Packet) → slice_get (sent es) k ≡ Some p → Pooled (moved (with_requests w rq) n y es) p
+    pub acks : (k v p : ℕ) → slice_get (acked es) k ≡ Some (v, p) → AckOk (moved (with_requests w rq) n y es) v p
+    pub owner : Owner (moved (with_requests w rq) n y es) n y → OwnerOk (moved (with_requests w rq) n y es) n y
     pub member : (m : ℕ) (z : NodeState M) → m ≢ n → Owner w m z → OwnerOk w m z → joining.is_open z.join ≡ true → inc_of z.join.view.members n ≡ y.join.inc → MemberOk w.log z.core.lock n y
 
-  pub move_keeps : (w : World M) (n : ℕ) (x y : NodeState M) (es : List Effect) → Invariant w → w.nodes n ≡ Some x → MoveOk w n x y es → Invariant (moved w n y es)
-  move_keeps w n x y es j at h =
-      let w' : World M = moved w n y es in
-      let e : Ext w w' = ext_absorb w n x y es at h.grown in
+  pub move_on : (w : World M) (rq : ℕ → ℕ → List Update) (n : ℕ) (x y : NodeState M) (es : List Effect) → ((m i q : ℕ) (u : Update) → Requested w m i q u → at_place (rq m i) q ≡ Some u) → ((m : ℕ) → m ≢ n → rq m ≡ w.requests m) → ((m i : ℕ) → w.starts m < i → length (rq m i) ≡ 0) → Invariant w → w.nodes n ≡ Some x → MoveOk w rq n x y es → Invariant (moved (with_requests w rq) n y es)
+  move_on w rq n x y es more others un j at h =
+      let w' : World M = moved (with_requests w rq) n y es in
+      let e : Ext w w' = ext_on w rq n x y es more at h.grown in
       let ao : AskedOnly w = λ r s. (j.log.asked r s).1 in
       record {
         chain = record { chain = j.chain.chain; started = j.chain.started; locker = j.chain.locker };
-        log = log_stays w n (becomes y es) e j.log;
+        log = log_on w rq n (becomes y es) e un j.log;
         nodes = λ m z s. ⊎_elim
             (λ (c : (m ≡ n) × (Some y ≡ Some z)). at_self (λ (a : ℕ) (b : NodeState M). NodeOk w' a b) m n y z c.0 c.1 h.node)
-            (λ (c : (m ≢ n) × (w.nodes m ≡ Some z)). node_stays w n (becomes y es) m z e ao (j.nodes m z c.1))
+            (λ (c : (m ≢ n) × (w.nodes m ≡ Some z)). node_on w rq n (becomes y es) m z e ao (ap (λ (f : ℕ → List Update). length (f z.join.inc)) (others m c.0)) (j.nodes m z c.1))
             (put_cases w.nodes n (Some y) m z s);
         owner = λ m z s. ⊎_elim
             (λ (c : (m ≡ n) × (Some y ≡ Some z)). at_self (λ (a : ℕ) (b : NodeState M). Owner w' a b → OwnerOk w' a b) m n y z c.0 c.1 h.owner s)
@@ -180,10 +208,13 @@ module _ {M : Machine} where
             (λ (c : (i : ℕ) × (slice_get (sent es) i ≡ Some p)). h.messages c.0 p c.1)
             (slice_get_append w.pool (sent es) k p s);
         acks = λ a v k s. ⊎_elim
-            (λ (c : slice_get w.acks a ≡ Some (v, k)). ack_stays w n (becomes y es) v k e (j.acks a v k c))
+            (λ (c : slice_get w.acks a ≡ Some (v, k)). (let g = j.acks a v k c in record { view = g.view; declared = g.declared; place = g.place; later = g.later; members = all_reached w w' g.view.members k e g.members }))
             (λ (c : (i : ℕ) × (slice_get (acked es) i ≡ Some (v, k))). h.acks c.0 v k c.1)
             (slice_get_append w.acks (acked es) a (v, k) s);
       }
+
+  pub move_keeps : (w : World M) (n : ℕ) (x y : NodeState M) (es : List Effect) → Invariant w → w.nodes n ≡ Some x → MoveOk w w.requests n x y es → Invariant (moved w n y es)
+  move_keeps w n x y es j at h = move_on w w.requests n x y es (λ m i q u e. e) (λ m ne. refl) j.log.unasked j at h
 
   -- a node in a view sends: its view is declared, and the message is its own
   pub told : (w : World M) (n : ℕ) (x y : NodeState M) (es : List Effect) (to : ℕ) (b : Body) → NodeOk w n x → x.join.view.number ≢ 0 → y.join.view ≡ x.join.view → y.join.node ≡ x.join.node → MsgOk (moved w n y es) x.join.view n to b → Pooled (moved w n y es) (packet y to b)

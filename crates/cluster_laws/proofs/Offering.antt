@@ -1,10 +1,11 @@
 -- Offers are followed, and the state is pulled.
-use Rattle.std.proofs.Common.{◌≡◌, ◌≢◌, ℕ, zero, suc, ◌+◌, ◌<◌, ◌≤◌, true, false, not, ◌&&◌, List, [], ◌∷◌, ◌++◌, length, take, drop, Option, Some, None, nat_eq, if◌then◌else◌, refl, sym, ap, ◌∙◌, subst, arith}
+use Rattle.std.proofs.Common.{◌≡◌, ◌≢◌, ℕ, zero, suc, ◌+◌, ◌<◌, ◌≤◌, true, false, not, ◌&&◌, List, [], ◌∷◌, ◌++◌, length, take, drop, Option, Some, None, nat_eq, cond, if◌then◌else◌, refl, sym, ap, ◌∙◌, subst, arith}
 use Rattle.gum_messages.specs.declared.member.Member.{Member}
 use Rattle.gum_messages.specs.declared.view.View.{View}
 use Rattle.gum_messages.specs.Members.{is_locker}
 use Rattle.gum_messages.specs.Places.{at_place}
 use Rattle.gum_messages.proofs.Branches.{if_cases, option_cases}
+use Rattle.gum_messages.proofs.Placing.{place_some}
 use Rattle.update_records.specs.Entry.{Entry}
 use Rattle.view_reconcile.specs.declared.stage.Stage.{Stage}
 use Rattle.view_reconcile.specs.declared.stage.Stage.TheVariants as stage
@@ -14,18 +15,18 @@ use Rattle.view_reconcile.specs.Joining.{ReconcileState}
 use Rattle.view_reconcile.specs.Joining as joining
 use Rattle.cluster_rules.specs.Machines.{Machine, IsMachine, registry_at}
 use Rattle.cluster_rules.specs.Packets.{Packet, Offer, Need, Piece, Ready}
-use Rattle.cluster_rules.specs.Nodes.{Effect, NodeState, Offering, Out, Replica, Send, done_of, locker_at, nothing, packet, place_of, tells}
+use Rattle.cluster_rules.specs.Nodes.{Effect, NodeState, Offering, Out, Replica, Send, done_of, has_state, locker_at, nothing, packet, place_of, tells}
 use Rattle.cluster_rules.specs.Updates.{applied}
 use Rattle.cluster_rules.specs.Joins.{follows, gathers, joined, known_done, on_need, on_offer, on_piece, piece, says_ready, sends_piece, shows, takes_state, with_replica}
 use Rattle.cluster_rules.specs.Worlds.{World, absorb}
 use Rattle.cluster_laws.proofs.Inv.{AckOk, Has, Invariant, MemberOk, MsgOk, NodeOk, Pooled, WasReady, at_head, state_bytes, waits}
 use Rattle.cluster_laws.proofs.Stable.{Grown, grown_refl}
 use Rattle.cluster_laws.proofs.Moves.{move_keeps, moved, node_in, none_acked, one_told, reached_self, self_node, stay_keeps, stay_sends, told}
-use Rattle.cluster_laws.proofs.Applying.{and_true, done_at, fold_next, locker_not, next_replica, not_true, replica_next}
+use Rattle.cluster_laws.proofs.Applying.{and_true, done_at, next_outcome, eq_true, fold_next, locker_not, next_replica, not_true, replica_next, state_of}
 use Rattle.std.proofs.Math.Seq.{take-add}
 use Rattle.std.proofs.lemmas.List.{take_all}
-use Rattle.view_reconcile.proofs.Cases.{becomes_ready_cases, offered_cases, pulled_cases}
-use Rattle.cluster_laws.proofs.Readying.{Readies, readied, ready_keeps, unready_unopen}
+use Rattle.view_reconcile.proofs.Cases.{becomes_ready_cases, has_all_says, lacks_last_says, pulled_cases}
+use Rattle.cluster_laws.proofs.Readying.{Known, Readies, far_known, readied, ready_keeps, unready_unopen}
 
 -- a node that is alone in its view is its locker
 pub alone_locks : (s : ReconcileState) → joining.is_alone s ≡ true → joining.locks s ≡ true
@@ -42,6 +43,24 @@ alone_locks s e = go s.view.members e
 -- a member that has what was offered is ready, and not open yet
 pub taken_ready : (s : ReconcileState) (t : Stage) → joining.locks s ≡ false → joining.taken (record s { stage = t }) true ≡ (record s { stage = stage.Ready }, step.Ready)
 taken_ready s t nl = if_cases (λ (r : ReconcileState × Step). r ≡ (record s { stage = stage.Ready }, step.Ready)) (joining.is_alone s) _ _ (λ a. absurd (locker_not (joining.locks s) (alone_locks s a) nl)) (λ a. refl)
+
+-- the cases of an offer, with what a node that must pull lacks
+pub offered_split : (P : ReconcileState × Step → Type 0) (s : ReconcileState) (count : ℕ) (last done : Option ℕ)
+    → (s.view.number ≡ 0 → P (s, step.Nothing))
+    → (s.view.number ≢ 0 → joining.is_ready s ≡ true → P (s, cond (joining.locks s) step.Nothing step.Ready))
+    → (s.view.number ≢ 0 → joining.is_ready s ≡ false → done ≡ Some count → P (joining.becomes_ready s))
+    → (s.view.number ≢ 0 → joining.is_ready s ≡ false → (k : ℕ) → done ≡ Some k → k + 1 ≡ count → last ≡ Some count → P (record s { stage = stage.Taking }, step.ApplyLast))
+    → (s.view.number ≢ 0 → joining.is_ready s ≡ false → joining.has_all done count ≡ false → joining.lacks_last done count last ≡ false → P (joining.pulls s))
+    → P (joining.offered s count last done)
+offered_split P s count last done none again all_ next far =
+    if_cases P (nat_eq s.view.number 0) _ _ (λ e. none (eq_true s.view.number 0 e)) (λ e.
+    let nz : s.view.number ≢ 0 = eq_not s.view.number 0 e in
+    if_cases P (joining.is_ready s) _ _ (again nz) (λ r.
+    if_cases P (joining.has_all done count) _ _ (λ h. all_ nz r (has_all_says done count h)) (λ h.
+    if_cases P (joining.lacks_last done count last) _ _ (λ l. let says = lacks_last_says done count last l in next nz r says.0 says.1 says.2 says.3) (λ l. far nz r h l))))
+  where
+    eq_not : (a b : ℕ) → nat_eq a b ≡ false → a ≢ b
+    eq_not a b e = grind arith
 
 pub take_length : {A : Type 0} (k : ℕ) (l : List A) → take k l ≡ take (length (take k l)) l
 take_length zero l = refl
@@ -77,7 +96,7 @@ module _ {M : Machine} where
       told w n x y es to Ready h nz vw nd (subst (λ (i : ℕ). WasReady (moved w n y es) n i x.join.view.number) (ic ∙ sym here) (subst (λ (v : View). WasReady (moved w n y es) n y.join.inc v.number) vw was))
 
   -- a member that becomes ready says so
-  pub says_keeps : (w : World M) (n : ℕ) (x : NodeState M) (s : Replica M) (last : Option Entry) (out : Option M.Outcome) → Invariant w → w.nodes n ≡ Some x → Readies w n x s last → joining.locks x.join ≡ false → (y : NodeState M) → y ≡ readied x s last out → Invariant (absorb n (says_ready y) w)
+  pub says_keeps : (w : World M) (n : ℕ) (x : NodeState M) (s : Replica M) (last : Option Entry) (out : Option M.Outcome) → Invariant w → w.nodes n ≡ Some x → Readies w n x s last out → joining.locks x.join ≡ false → (y : NodeState M) → y ≡ readied x s last out → Invariant (absorb n (says_ready y) w)
   says_keeps w n x s last out j at k nl y eq =
       let z : NodeState M = readied x s last out in
       ready_keeps w n x s last out (λ (t : NodeState M). Send (packet t (locker_at t) Ready) ∷ []) j at k y eq
@@ -85,13 +104,13 @@ module _ {M : Machine} where
       refl
       (λ o. absurd (locker_not (joining.locks x.join) o.locker nl))
 
-  -- NOT READY YET
+  -- Not ready yet
   abbrev pub pulling : NodeState M → Stage → Option Offering → List ℕ → NodeState M
   pulling x t o bs = record x { join = record x.join { stage = t }; offer = o; bytes = bs }
 
   pub still_keeps : (w : World M) (n : ℕ) (x : NodeState M) (t : Stage) (of : Option Offering) (bs : List ℕ) (offset : ℕ) → Invariant w → w.nodes n ≡ Some x → x.join.view.number ≢ 0 → joining.is_ready x.join ≡ false
       → joining.is_ready (record x.join { stage = t }) ≡ false
-      → ((o : Offering) → of ≡ Some o → (w.log.count x.join.view.number ≡ Some o.count) × (o.cap ≡ w.log.cap) × (o.last ≡ at_place w.log.order o.count) × (joining.locks x.join ≡ false))
+      → ((o : Offering) → of ≡ Some o → (w.log.count x.join.view.number ≡ Some o.count) × (o.cap ≡ w.log.cap) × (o.last ≡ at_place w.log.order o.count) × (joining.locks x.join ≡ false) × (has_state x ≡ true → done_of x + 1 < o.count))
       → ((got : ℕ) → t ≡ stage.Pulling got → (o : Offering) × (of ≡ Some o) × (bs ≡ take got (state_bytes w o.count)))
       → Invariant (absorb n (tells (pulling x t of bs) (locker_at x) (Need offset)) w)
   still_keeps w n x t of bs offset j at nz nr nt po pu =
@@ -122,6 +141,12 @@ module _ {M : Machine} where
           idle = h.idle;
           waiting = h.waiting;
           waiting_doubt = h.waiting_doubt;
+          near_head = h.near_head;
+          near_doubt = h.near_doubt;
+          full_state = h.full_state;
+          outcome = h.outcome;
+          queued = h.queued;
+          all_requests = h.all_requests;
           finished = h.finished;
           core_open = h.core_open ∙ shut ∙ sym shut';
           unsettled = λ c. absurd (locker_not (joining.is_open y.join) c shut');
@@ -130,6 +155,7 @@ module _ {M : Machine} where
           unready = λ c i b. h.unready c i nr;
           pull = λ o e. let p = po o e in (nt, p.0, p.1, p.2, p.3);
           pulled = pu;
+          pulling = λ o e. (po o e).4;
           closed = λ a b c. absurd (no_ready a);
           lock = λ l e. absurd (not_open ((h.lock l e).0));
           all_ready = λ c. absurd (locker_not (joining.is_open y.join) c shut');
@@ -143,7 +169,36 @@ module _ {M : Machine} where
         member = λ a z ne o k op i. let old : MemberOk w.log z.core.lock n x = k.members op n x at i in record { near = old.near; free = old.free; heads = old.heads };
       })
 
-  -- OFFER
+  -- Offer
+  pub done_known : (x : NodeState M) → has_state x ≡ true → known_done x ≡ Some (done_of x)
+  done_known x hs = let s = state_of x hs in subst (λ (r : Option (Replica M)). (elim r [ None ↦ None | Some r ↦ Some r.done ]) ≡ Some (done_of x)) (sym s.1) (ap (λ (d : ℕ). Some d) (sym (done_at x s.0 s.1)))
+
+  -- what came of the head is known behind the next record
+  pub next_known : (w : World M) (n : ℕ) (x : NodeState M) (e : Entry) (s : Replica M) → Invariant w → w.nodes n ≡ Some x → x.replica ≡ Some s → at_place w.log.order (s.done + 1) ≡ Some e → Known w n x (s.done + 1) (applied e x).outcome
+  next_known w n x e s j at st here a f sa id le =
+      let pl : e.place ≡ s.done + 1 = j.log.places (s.done + 1) e here in
+      next_outcome w n x e s a (j.nodes n x at) j.log.ids (record { at = ap (at_place w.log.order) pl ∙ here }) st pl f sa id le
+
+  -- a node that lacks more than the last record is far from the count
+  pub far_from : (w : World M) (n : ℕ) (x : NodeState M) (c : ℕ) (last : Option Entry) (known : Option ℕ) → Invariant w → w.nodes n ≡ Some x → joining.is_ready x.join ≡ false → w.log.count x.join.view.number ≡ Some c → at_place w.log.order c ≡ last → known ≡ Some (done_of x) → joining.has_all known c ≡ false → joining.lacks_last known c (place_of last) ≡ false → done_of x + 1 < c
+  far_from w n x c last known j at nr ct la kn na nl =
+      let h : NodeOk w n x = j.nodes n x at in
+      let up : done_of x ≤ c = h.unready c ct nr in
+      let cl : c ≤ length w.log.order = (j.log.counts x.join.view.number c ct).0 in
+      let not_all : nat_eq (done_of x) c ≡ false = ap (λ (d : Option ℕ). joining.has_all d c) (sym kn) ∙ na in
+      let d_ne : done_of x ≢ c = eq_not (done_of x) c not_all in
+      let e = place_some w.log.order c (omega arith) cl in
+      let pl : e.0.place ≡ c = j.log.places c e.0 e.1 in
+      let p : place_of last ≡ Some c = ap place_of (sym la ∙ e.1) ∙ ap (λ (k : ℕ). Some k) pl in
+      let not_last : (nat_eq (done_of x + 1) c && nat_eq c c) ≡ false = (λ i. joining.lacks_last (sym kn i) c (sym p i)) ∙ nl in
+      far (done_of x) c up d_ne not_last
+    where
+      eq_not : (a b : ℕ) → nat_eq a b ≡ false → a ≢ b
+      eq_not a b e = grind arith
+
+      far : (d c : ℕ) → d ≤ c → d ≢ c → (nat_eq (d + 1) c && nat_eq c c) ≡ false → d + 1 < c
+      far d c a b e = grind arith
+
   pub known_is : (x : NodeState M) (k : ℕ) → known_done x ≡ Some k → (s : Replica M) × (x.replica ≡ Some s) × (s.done ≡ k)
   known_is x k e = option_cases (λ (o : Option ℕ). o ≡ Some k → (s : Replica M) × (x.replica ≡ Some s) × (s.done ≡ k)) x.replica None (λ r. Some r.done) (λ none f. absurd (cc)) (λ r some f. (r, some, cc)) e
 
@@ -152,7 +207,7 @@ module _ {M : Machine} where
   follows_keeps w n x o j at nz nr nl ct cp la =
       let h : NodeOk w n x = j.nodes n x at in
       let P : ReconcileState × Step → Type 0 = λ r. Invariant (absorb n (follows x o r) w) in
-      offered_cases P x.join o.count (place_of o.last) (known_done x)
+      offered_split P x.join o.count (place_of o.last) (known_done x)
       (λ z. absurd (nz z))
       (λ z rd. absurd (locker_not (joining.is_ready x.join) rd nr))
       (λ z r kn. becomes_ready_cases P x.join
@@ -161,7 +216,7 @@ module _ {M : Machine} where
       let s = known_is x o.count kn in
       let eq : joined x o.count o.last (record x.join { stage = stage.Ready }) ≡ readied x s.0 o.last x.outcome =
       λ i. record x { join = record x.join { stage = stage.Ready }; replica = s.1 i; last = o.last; offer = None; bytes = []; settled = if shows o.last x then Some (sym s.2 i) else x.settled } in
-      says_keeps w n x s.0 o.last x.outcome j at (record { unready = nr; view = nz; counted = ct ∙ ap (λ (k : ℕ). Some k) (sym s.2); reg = h.registry s.0 s.1; last_at = sym la ∙ ap (at_place w.log.order) (sym s.2) }) nl (joined x o.count o.last (record x.join { stage = stage.Ready })) eq))
+      says_keeps w n x s.0 o.last x.outcome j at (record { unready = nr; view = nz; counted = ct ∙ ap (λ (k : ℕ). Some k) (sym s.2); reg = h.registry s.0 s.1; last_at = sym la ∙ ap (at_place w.log.order) (sym s.2); known = λ a f st id le. h.outcome a f st id (omega (arith, le, done_at x s.0 s.1)) }) nl (joined x o.count o.last (record x.join { stage = stage.Ready })) eq))
       (λ z r k kn next pl.
       let s = known_is x k kn in
       let e = place_is o.last o.count pl in
@@ -178,14 +233,16 @@ module _ {M : Machine} where
         counted = ct ∙ ap (λ (k : ℕ). Some k) (sym dn);
         reg = ap (λ (g : M.Registry). (M.apply e.0 g).0) (h.registry s.0 s.1) ∙ sym (fold_next M w.log.cap w.log.order s.0.done e.0 here);
         last_at = sym la ∙ ap (at_place w.log.order) (sym dn);
+        known = next_known w n x e.0 s.0 j at s.1 here;
       }) nl y eq in
       let tr = taken_ready x.join stage.Taking nl in
       let Q : Option Entry → Type 0 = λ l. Invariant (absorb n (elim l [ None ↦ nothing x | Some a ↦ says_ready (joined (applied a x) o.count o.last (joining.taken (record x.join { stage = stage.Taking }) true).0) ]) w) in
       subst Q (sym e.1) (subst (λ (r : ReconcileState × Step). Invariant (absorb n (says_ready (joined (applied e.0 x) o.count o.last r.0)) w)) (sym tr) keeps))
-      (λ z r.
+      (λ z r na nlk.
+      let far : has_state x ≡ true → done_of x + 1 < o.count = λ hs. far_from w n x o.count o.last (known_done x) j at nr ct la (done_known x hs) na nlk in
       let ps : (record x.join { stage = stage.Pulling 0 }, step.Pull 0) ≡ joining.pulls x.join = λ i. (record x.join { stage = if sym nl i then stage.Taking else stage.Pulling 0 }, step.Pull 0) in
       subst P ps (still_keeps w n x (stage.Pulling 0) (Some o) [] 0 j at nz nr refl
-      (λ a e. let q : o ≡ a = cc in subst (λ (a : Offering). (w.log.count x.join.view.number ≡ Some a.count) × (a.cap ≡ w.log.cap) × (a.last ≡ at_place w.log.order a.count) × (joining.locks x.join ≡ false)) q (ct, cp, sym la, nl))
+      (λ a e. let q : o ≡ a = cc in subst (λ (a : Offering). (w.log.count x.join.view.number ≡ Some a.count) × (a.cap ≡ w.log.cap) × (a.last ≡ at_place w.log.order a.count) × (joining.locks x.join ≡ false) × (has_state x ≡ true → done_of x + 1 < a.count)) q (ct, cp, sym la, nl, far))
       (λ got e. let q : 0 ≡ got = cc in (o, refl, subst (λ (g : ℕ). [] ≡ take g (state_bytes w o.count)) q refl))))
 
   pub on_offer_keeps : (w : World M) (n : ℕ) (x : NodeState M) (from c cap : ℕ) (last : Option Entry) → Invariant w → w.nodes n ≡ Some x → x.join.view.number ≢ 0 → MsgOk w x.join.view from n (Offer c cap last) → Invariant (absorb n (on_offer x from (record { count = c; cap = cap; last = last })) w)
@@ -201,7 +258,7 @@ module _ {M : Machine} where
       (λ nr. follows_keeps w n x o j at nz nr nl ok.0 ok.1 ok.2))
       (λ g. stay_keeps w n x j at)
 
-  -- THE STATE IN PIECES
+  -- The state in pieces
   pub on_need_keeps : (w : World M) (n : ℕ) (x : NodeState M) (from offset : ℕ) → Invariant w → w.nodes n ≡ Some x → x.join.view.number ≢ 0 → (joining.locks x.join ≡ true → joining.is_ready x.join ≡ true) → Invariant (absorb n (on_need x from offset) w)
   on_need_keeps w n x from offset j at nz lr =
       let h : NodeOk w n x = j.nodes n x at in
@@ -234,7 +291,7 @@ module _ {M : Machine} where
       let dec : M.decode o.cap bs ≡ Some g = (λ i. M.decode (p.2 i) (eq i)) ∙ law.reads_back w.log.cap (take o.count w.log.order) in
       let s : Replica M = record { registry = g; done = o.count } in
       let y : NodeState M = joined (with_replica x g o.count) o.count o.last (record x.join { stage = stage.Ready }) in
-      let keeps : Invariant (absorb n (says_ready y) w) = says_keeps w n x s o.last x.outcome j at (record { unready = nr; view = nz; counted = p.1; reg = refl; last_at = p.3 }) p.4 y refl in
+      let keeps : Invariant (absorb n (says_ready y) w) = says_keeps w n x s o.last x.outcome j at (record { unready = nr; view = nz; counted = p.1; reg = refl; last_at = p.3; known = far_known w n x o.count j at nz p.1 (h.pulling o of) }) p.4 y refl in
       let tr = taken_ready x.join stage.Taking p.4 in
       let taking : ReconcileState = record x.join { stage = stage.Taking } in
       let D : Option M.Registry → Out M = λ d. elim d [
@@ -265,7 +322,7 @@ module _ {M : Machine} where
       let nr : joining.is_ready x.join ≡ false = pulling_unready x.join offset e in
       let q = h.pulled offset e in
       still_keeps w n x (stage.Pulling (offset + length bytes)) x.offer (x.bytes ++ bytes) (offset + length bytes) j at nz nr refl
-      (λ o f. let p = h.pull o f in (p.1, p.2, p.3, p.4))
+      (λ o f. let p = h.pull o f in (p.1, p.2, p.3, p.4, h.pulling o f))
       (λ got f. let g : offset + length bytes ≡ got = cc in (q.0, q.1, more q.0 (h.pull q.0 q.1).1 q.2 ∙ ap (λ (k : ℕ). take k (state_bytes w q.0.count)) g)))
       (λ e le.
       let nr : joining.is_ready x.join ≡ false = pulling_unready x.join offset e in

@@ -17,20 +17,20 @@ use Rattle.cluster_rules.specs.Machines.{Machine}
 use Rattle.cluster_rules.specs.Packets.{Body, Packet, Ready, OpenView}
 use Rattle.cluster_rules.specs.Nodes.{Acked, Effect, Halted, NodeState, Opened, Out, Send, after, asks, becomes, done_of, locker_at, nothing, packet, to_each}
 use Rattle.cluster_rules.specs.Updates.{begins, opens}
-use Rattle.cluster_rules.specs.Joins.{counts, on_open_view, on_ready, opens_view}
+use Rattle.cluster_rules.specs.Joins.{marks_ready, on_open_view, on_ready, opens_view}
 use Rattle.cluster_rules.specs.Worlds.{World, absorb, acked, put, sent}
 use Rattle.cluster_laws.proofs.Inv.{AckOk, Has, Invariant, MemberOk, MsgOk, NodeOk, Owner, OwnerOk, Pooled, WasReady, at_head, waits}
 use Rattle.cluster_laws.proofs.Stable.{Ext, Grown, grown_refl, pooled, was_ready}
 use Rattle.cluster_laws.proofs.Moves.{at_self, ext_absorb, move_keeps, moved, node_in, none_acked, none_told, owner_moves, put_cases, stay_keeps, stay_sends, stay_tells, told}
-use Rattle.cluster_laws.proofs.Applying.{and_true, eq_true, locker_not}
+use Rattle.cluster_laws.proofs.Applying.{and_true, length_some, eq_true, locker_not}
 use Rattle.view_reconcile.proofs.Cases.{opened_cases, readied_cases}
 use Rattle.view_reconcile.proofs.Marking.{each_counts, marked_says}
 use Rattle.gum_core.proofs.Cases.{opened_cases as core_opened_cases}
-use Rattle.cluster_laws.proofs.Heads.{ask_told, asks_acks, asks_told, cons_told, full_asks, head_keeps, length_some}
+use Rattle.cluster_laws.proofs.Heads.{ask_told, asks_acks, asks_told, cons_told, full_asks, head_keeps, head_requested}
 use Rattle.cluster_laws.proofs.Finish.{Done, if_some, pop_ok, popped, popped_grown}
 use Rattle.cluster_laws.proofs.HeadRules.{open_is_ready}
 
--- TWO MOVES OF ONE NODE ARE ONE
+-- Two moves of one node are one
 pub put_put : {A : Type 0} (f : ℕ → A) (n : ℕ) (a b : A) → put (put f n a) n b ≡ put f n b
 put_put f n a b = λ i m. e m i
   where
@@ -125,6 +125,13 @@ module _ {M : Machine} where
           idle = h.idle;
           waiting = h.waiting;
           waiting_doubt = h.waiting_doubt;
+          near_head = h.near_head;
+          near_doubt = h.near_doubt;
+          full_state = h.full_state;
+          pulling = h.pulling;
+          outcome = h.outcome;
+          queued = h.queued;
+          all_requests = h.all_requests;
           finished = h.finished;
           core_open = refl;
           unsettled = λ c. us;
@@ -168,7 +175,7 @@ module _ {M : Machine} where
       stay_tells w n x es j at (asks_acks x next) (asks_told (λ (p : Packet). Pooled (moved w n x es) p) x next (λ req u us some e.
       let full : x.core.queue ≢ [] = λ z. absurd (let y : ◌≡◌ {A = List Update} (u ∷ us) [] = sym e ∙ z in cc) in
       let same : req ≡ x.core.passed + 1 = rq req some in
-      ask_told w n x x es req u j at (grown_refl x) refl refl refl rd (omega (arith, full_asks x full)) (λ r c st id i. h.behind r c (full, h.unsettled op) st (record { node = id.node; inc = id.inc; req = id.req ∙ same }) rd i)))
+      ask_told w n x x es req u j at (grown_refl x) refl refl refl rd (omega (arith, full_asks x full)) (head_requested w n x u us req h e same) (λ r c st id i. h.behind r c (full, h.unsettled op) st (record { node = id.node; inc = id.inc; req = id.req ∙ same }) rd i)))
 
   -- what a settled head has, where all members were ready
   pub settled_done : (w : World M) (n : ℕ) (x : NodeState M) (k : ℕ) → Invariant w → w.nodes n ≡ Some x → joining.is_ready x.join ≡ true → AllWere w x → x.core.queue ≢ [] → x.settled ≡ Some k → (r : Entry) × Done w n x r × (r.place ≡ k)
@@ -258,7 +265,7 @@ module _ {M : Machine} where
       (asks_keeps (moved w n y es) n y (Some (x.core.passed + 1)) (open_first none) (moved_there w n y es) refl (λ req e. let q : x.core.passed + 1 ≡ req = cc in sym q)))
       (λ some k set_. settles_keeps w n x es k j at rd shut were na ms (length_some x.core.queue some) set_)
 
-  -- READY
+  -- Ready
   pub was_ready_here : (w : World M) (n : ℕ) (x : NodeState M) → Invariant w → w.nodes n ≡ Some x → joining.is_ready x.join ≡ true → WasReady w n x.join.inc x.join.view.number
   was_ready_here w n x j at rd =
       let h : NodeOk w n x = j.nodes n x at in
@@ -314,6 +321,13 @@ module _ {M : Machine} where
           waiting = h.waiting;
           waiting_doubt = h.waiting_doubt;
           behind = h.behind;
+          near_head = h.near_head;
+          near_doubt = h.near_doubt;
+          full_state = h.full_state;
+          pulling = h.pulling;
+          outcome = h.outcome;
+          queued = h.queued;
+          all_requests = h.all_requests;
           finished = h.finished;
           marked = λ m e pos. ⊎_elim
               (λ (c : m ≡ from). subst (λ (t : ℕ). WasReady w t (inc_of x.join.view.members t) x.join.view.number) (sym c) was)
@@ -355,7 +369,7 @@ module _ {M : Machine} where
   pub on_ready_keeps : (w : World M) (n : ℕ) (x : NodeState M) (from : ℕ) → Invariant w → w.nodes n ≡ Some x → x.join.view.number ≢ 0 → MsgOk w x.join.view from n Ready → Invariant (absorb n (on_ready x from) w)
   on_ready_keeps w n x from j at nz ok =
       let h : NodeOk w n x = j.nodes n x at in
-      let P : ReconcileState × Step → Type 0 = λ r. Invariant (absorb n (counts x r) w) in
+      let P : ReconcileState × Step → Type 0 = λ r. Invariant (absorb n (marks_ready x r) w) in
       readied_cases P x.join from
       (λ l. stay_keeps w n x j at)
       (λ l op. stay_sends w n x from OpenView j at (told w n x x (Send (packet x from OpenView) ∷ []) from OpenView h nz refl refl (λ m pos. was_ready w (moved w n x (Send (packet x from OpenView) ∷ [])) m (inc_of x.join.view.members m) x.join.view.number (ext_absorb w n x x (Send (packet x from OpenView) ∷ []) at (grown_refl x)) (λ r s. (j.log.asked r s).1) (h.all_ready op m pos))))
@@ -366,7 +380,7 @@ module _ {M : Machine} where
       subst (λ (v : World M). Invariant v) (two_moves w n y [] o) (locker_opens (moved w n y []) n y j1 (moved_there w n y []) shut all))
       (λ l shut not_all. marked_keeps w n x from j at ok)
 
-  -- OPEN
+  -- Open
   pub on_open_view_keeps : (w : World M) (n : ℕ) (x : NodeState M) (from : ℕ) → Invariant w → w.nodes n ≡ Some x → MsgOk w x.join.view from n OpenView → Invariant (absorb n (on_open_view x from) w)
   on_open_view_keeps w n x from j at ok =
       let Q : Out M → Type 0 = λ o. Invariant (absorb n o w) in

@@ -1,26 +1,24 @@
 -- A node becomes ready.
-use Rattle.std.proofs.Common.{◌≡◌, ◌≢◌, ⊎_elim, ℕ, ◌+◌, ◌<◌, ◌≤◌, Bool, true, false, ◌&&◌, List, [], ◌∷◌, length, Option, Some, None, nat_eq, nat_lt, cond, if◌then◌else◌, slice_get, refl, sym, ap, ◌∙◌, subst, arith}
+use Rattle.std.proofs.Common.{◌≡◌, ◌≢◌, ⊎_elim, ℕ, ◌+◌, ◌-◌, ◌<◌, ◌≤◌, Bool, true, false, List, [], length, Option, Some, None, cond, if◌then◌else◌, slice_get, refl, sym, ap, ◌∙◌, subst, arith}
 use Rattle.std.proofs.lemmas.Bool.{cases_lt}
 use Rattle.gum_messages.specs.Members.{inc_of}
 use Rattle.gum_messages.specs.Places.{at_place}
 use Rattle.gum_messages.proofs.Branches.{if_cases}
 use Rattle.gum_messages.proofs.Placing.{place_some}
 use Rattle.update_records.specs.Entry.{Entry}
-use Rattle.update_records.specs.declared.update.Update.{Update}
 use Rattle.view_reconcile.specs.declared.stage.Stage.{Stage}
 use Rattle.view_reconcile.specs.declared.stage.Stage.TheVariants as stage
 use Rattle.view_reconcile.specs.Joining.{ReconcileState}
 use Rattle.view_reconcile.specs.Joining as joining
-use Rattle.cluster_rules.specs.Machines.{Machine, registry_at}
+use Rattle.cluster_rules.specs.Machines.{Machine, outcome_at, registry_at}
 use Rattle.cluster_rules.specs.Packets.{Packet}
-use Rattle.cluster_rules.specs.Nodes.{Effect, NodeState, Replica, done_of, is_head}
+use Rattle.cluster_rules.specs.Nodes.{Effect, NodeState, Replica, done_of, has_state}
 use Rattle.cluster_rules.specs.Joins.{shows}
 use Rattle.cluster_rules.specs.Worlds.{World, acked, sent}
 use Rattle.cluster_laws.proofs.Inv.{AckOk, Has, Invariant, MemberOk, NodeOk, Owner, OwnerOk, Pooled, Stands, at_head, waits}
 use Rattle.cluster_laws.proofs.Stable.{Grown}
 use Rattle.cluster_laws.proofs.Moves.{move_keeps, moved, node_in, none_acked}
-use Rattle.cluster_laws.proofs.Applying.{and_true, eq_true, locker_not, lt_true}
-use Rattle.cluster_laws.proofs.Heads.{length_some}
+use Rattle.cluster_laws.proofs.Applying.{has_is_head, is_head_has, locker_not}
 
 pub if_none : {A : Type 0} (b : Bool) (a : A) (o : Option A) → cond b (Some a) o ≡ None → (b ≡ false) × (o ≡ None)
 if_none true a o e = absurd (cc)
@@ -38,23 +36,6 @@ unready_unopen s e = go s.stage e
     go stage.Open e = cc
 
 module _ {M : Machine} where
-  pub is_head_has : (e : Entry) (x : NodeState M) → is_head e x ≡ true → Has e x.join.node x.join.inc (at_head x) × (x.core.queue ≢ [])
-  is_head_has e x h =
-      let a = and_true (nat_lt 0 (length x.core.queue)) (nat_eq e.id.node x.join.node && (nat_eq e.id.inc x.join.inc && nat_eq e.id.req (x.core.passed + 1))) h in
-      let b = and_true (nat_eq e.id.node x.join.node) (nat_eq e.id.inc x.join.inc && nat_eq e.id.req (x.core.passed + 1)) a.1 in
-      let c = and_true (nat_eq e.id.inc x.join.inc) (nat_eq e.id.req (x.core.passed + 1)) b.1 in
-      (record { node = eq_true e.id.node x.join.node b.0; inc = eq_true e.id.inc x.join.inc c.0; req = eq_true e.id.req (x.core.passed + 1) c.1 }, length_some x.core.queue (lt_true 0 (length x.core.queue) a.0))
-
-  pub has_is_head : (e : Entry) (x : NodeState M) → Has e x.join.node x.join.inc (at_head x) → x.core.queue ≢ [] → is_head e x ≡ true
-  has_is_head e x h f = all (length x.core.queue) e.id.node x.join.node e.id.inc x.join.inc e.id.req (x.core.passed + 1) (some x.core.queue f) h.node h.inc h.req
-    where
-      some : (l : List Update) → l ≢ [] → 0 < length l
-      some [] f = absurd (f refl)
-      some (a ∷ as_) f = omega arith
-
-      all : (k a b c d e f : ℕ) → 0 < k → a ≡ b → c ≡ d → e ≡ f → (nat_lt 0 k && (nat_eq a b && (nat_eq c d && nat_eq e f))) ≡ true
-      all k a b c d e f p q r s = grind arith
-
   pub shows_head : (last : Option Entry) (x : NodeState M) → shows last x ≡ true → (e : Entry) × (last ≡ Some e) × Has e x.join.node x.join.inc (at_head x) × (x.core.queue ≢ [])
   shows_head None x h = absurd (cc)
   shows_head (Some e) x h = let b = is_head_has e x h in (e, refl, b.0, b.1)
@@ -62,13 +43,18 @@ module _ {M : Machine} where
   abbrev pub readied : NodeState M → Replica M → Option Entry → Option M.Outcome → NodeState M
   readied x s last out = record x { join = record x.join { stage = stage.Ready }; replica = Some s; last = last; offer = None; bytes = []; settled = if shows last x then Some s.done else x.settled; outcome = out }
 
+  -- what came of the head is known
+  abbrev pub Known : World M → ℕ → NodeState M → ℕ → Option M.Outcome → Type 0
+  Known w n x done out = (r : Entry) → x.core.queue ≢ [] → Stands w.log r → Has r n x.join.inc (at_head x) → r.place ≤ done → out ≡ Some (outcome_at M w.log.cap w.log.order (r.place - 1) r)
+
   -- what a node that becomes ready has
-  pub record Readies (w : World M) (n : ℕ) (x : NodeState M) (s : Replica M) (last : Option Entry) : Type 0 where
+  pub record Readies (w : World M) (n : ℕ) (x : NodeState M) (s : Replica M) (last : Option Entry) (out : Option M.Outcome) : Type 0 where
     pub unready : joining.is_ready x.join ≡ false
     pub view : x.join.view.number ≢ 0
     pub counted : w.log.count x.join.view.number ≡ Some s.done
     pub reg : s.registry ≡ registry_at M w.log.cap w.log.order s.done
     pub last_at : last ≡ at_place w.log.order s.done
+    pub known : Known w n x s.done out
 
   -- a waiting head's record doesn't stand below the count of the node's view
   pub waiting_not_below : (w : World M) (n : ℕ) (x : NodeState M) (c : ℕ) (r : Entry) → Invariant w → w.nodes n ≡ Some x → x.join.view.number ≢ 0 → w.log.count x.join.view.number ≡ Some c → waits x → Stands w.log r → Has r n x.join.inc (at_head x) → r.place < c → ⊥
@@ -87,10 +73,30 @@ module _ {M : Machine} where
       (j.chain.chain.unbroken (w.log.view_at r.place) (w.log.view_at e.0.place) x.join.view.number lr.0 ls.0 x.join.view n x.join.inc lr.1 ls.1 d.0 o (omega arith) h.positive
       (ap (inc_of lr.0.members) (sym id.node) ∙ sym lr.2 ∙ id.inc) d.1)
 
+  -- a node that takes a whole state at the count of its view, two records away or more, knows what came of its head
+  pub far_known : (w : World M) (n : ℕ) (x : NodeState M) (c : ℕ) → Invariant w → w.nodes n ≡ Some x → x.join.view.number ≢ 0 → w.log.count x.join.view.number ≡ Some c → (has_state x ≡ true → done_of x + 1 < c) → Known w n x c x.outcome
+  far_known w n x c j at nz ct far r f st id le =
+      let h : NodeOk w n x = j.nodes n x at in
+      let P : Type 0 = x.outcome ≡ Some (outcome_at M w.log.cap w.log.order (r.place - 1) r) in
+      let near : r.place ≤ done_of x → P = λ b. h.outcome r f st id b in
+      let waiting_ : x.settled ≡ None → P = λ ns.
+      let nh : r.place ≤ done_of x + 1 = h.near_head r (f, ns) st id in
+      let fr : done_of x + 1 < c = far (h.full_state f) in
+      absurd (waiting_not_below w n x c r j at nz ct (f, ns) st id (omega arith)) in
+      let set_ : (k : ℕ) → x.settled ≡ Some k → P = λ k e.
+      let t = h.settled k e in
+      let p : r.place ≡ t.0.place = j.log.ids r t.0 st t.1 (id.node ∙ sym t.3.node) (id.inc ∙ sym t.3.inc) (id.req ∙ sym t.3.req) in
+      near (omega (arith, p, t.2, t.4)) in
+      either x.settled waiting_ set_
+    where
+      either : {A : Type 0} {P : Type 0} (o : Option A) → (o ≡ None → P) → ((a : A) → o ≡ Some a → P) → P
+      either None n s = n refl
+      either (Some a) n s = s a refl
+
   pub ready_waits : (x : NodeState M) (s : Replica M) (last : Option Entry) (out : Option M.Outcome) → waits (readied x s last out) → waits x × (shows last x ≡ false)
   ready_waits x s last out wt = let b = if_none (shows last x) s.done x.settled wt.1 in ((wt.0, b.1), b.0)
 
-  pub ready_node : (w : World M) (n : ℕ) (x : NodeState M) (s : Replica M) (last : Option Entry) (out : Option M.Outcome) → Invariant w → w.nodes n ≡ Some x → Readies w n x s last → NodeOk w n (readied x s last out)
+  pub ready_node : (w : World M) (n : ℕ) (x : NodeState M) (s : Replica M) (last : Option Entry) (out : Option M.Outcome) → Invariant w → w.nodes n ≡ Some x → Readies w n x s last out → NodeOk w n (readied x s last out)
   ready_node w n x s last out j at k =
       let h : NodeOk w n x = j.nodes n x at in
       let y : NodeState M = readied x s last out in
@@ -110,6 +116,8 @@ module _ {M : Machine} where
         view = h.view;
         peopled = h.peopled;
         marked = h.marked;
+        queued = h.queued;
+        all_requests = h.all_requests;
         finished = h.finished;
         core_open = h.core_open ∙ shut;
         unsettled = λ c. absurd (cc);
@@ -137,6 +145,11 @@ module _ {M : Machine} where
         spreading = λ t e. absurd (not_open ((h.spreading t e).3));
         waiting = λ r t u wt st id. h.waiting r t u ((ready_waits x s last out wt).0) st id;
         waiting_doubt = λ r t u wt st id. h.waiting_doubt r t u ((ready_waits x s last out wt).0) st id;
+        near_head = λ r wt st id. omega (arith, h.near_head r ((ready_waits x s last out wt).0) st id, up);
+        near_doubt = λ r wt mb id. omega (arith, h.near_doubt r ((ready_waits x s last out wt).0) mb id, up);
+        full_state = λ f. refl;
+        pulling = λ o e. absurd (cc);
+        outcome = k.known;
         behind = λ r c wt st id rd i.
             let rw_ : waits x × (shows last x ≡ false) = ready_waits x s last out wt in
             let cs : c ≡ s.done = count_is c i in
@@ -154,7 +167,7 @@ module _ {M : Machine} where
             (cases_lt c r.place);
       }
 
-  pub ready_grown : (w : World M) (n : ℕ) (x : NodeState M) (s : Replica M) (last : Option Entry) (out : Option M.Outcome) → Invariant w → w.nodes n ≡ Some x → Readies w n x s last → Grown x (readied x s last out)
+  pub ready_grown : (w : World M) (n : ℕ) (x : NodeState M) (s : Replica M) (last : Option Entry) (out : Option M.Outcome) → Invariant w → w.nodes n ≡ Some x → Readies w n x s last out → Grown x (readied x s last out)
   ready_grown w n x s last out j at k = record {
     inc = refl;
     done = (j.nodes n x at).unready s.done k.counted k.unready;
@@ -164,7 +177,7 @@ module _ {M : Machine} where
     waits = λ a b c. (ready_waits x s last out c).0;
   }
 
-  pub ready_keeps : (w : World M) (n : ℕ) (x : NodeState M) (s : Replica M) (last : Option Entry) (out : Option M.Outcome) (es : NodeState M → List Effect) → Invariant w → w.nodes n ≡ Some x → Readies w n x s last
+  pub ready_keeps : (w : World M) (n : ℕ) (x : NodeState M) (s : Replica M) (last : Option Entry) (out : Option M.Outcome) (es : NodeState M → List Effect) → Invariant w → w.nodes n ≡ Some x → Readies w n x s last out
       → (y : NodeState M) → y ≡ readied x s last out
       → (NodeOk (moved w n (readied x s last out) (es (readied x s last out))) n (readied x s last out) → (k : ℕ) (p : Packet) → slice_get (sent (es (readied x s last out))) k ≡ Some p → Pooled (moved w n (readied x s last out) (es (readied x s last out))) p) → acked (es (readied x s last out)) ≡ []
       → (Owner (moved w n (readied x s last out) (es (readied x s last out))) n (readied x s last out) → OwnerOk (moved w n (readied x s last out) (es (readied x s last out))) n (readied x s last out))

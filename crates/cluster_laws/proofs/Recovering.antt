@@ -26,7 +26,7 @@ use Rattle.cluster_laws.proofs.Growth.{Grows, NewOk, ack_grows, grown_world, log
 use Rattle.cluster_laws.proofs.Stopping.{less_keeps}
 
 module _ {M : Machine} where
-  -- A VIEW IS TAKEN
+  -- A view is taken
   abbrev pub taken_view : View → NodeState M → NodeState M
   taken_view v x = record x { core = updating.entered x.core v; join = record x.join { view = v; stage = stage.Waiting; ready = replicate (length v.members) false }; offer = None; bytes = []; spreads = None }
 
@@ -54,6 +54,12 @@ module _ {M : Machine} where
           last = h.last;
           waiting = h.waiting;
           waiting_doubt = h.waiting_doubt;
+          near_head = h.near_head;
+          near_doubt = h.near_doubt;
+          full_state = h.full_state;
+          outcome = h.outcome;
+          queued = h.queued;
+          all_requests = h.all_requests;
           core_members = refl;
           core_open = refl;
           entries = length-replicate (length v.members) 0;
@@ -74,6 +80,7 @@ module _ {M : Machine} where
           unsettled = λ c. absurd (cc);
           spreading = λ s e. absurd (cc);
           behind = λ r c wt st id a. absurd (cc);
+          pulling = λ o e. absurd (cc);
           finished = λ q p b. let f = h.finished q p b in (f.0, f.1, f.2, f.3, f.4, f.5, omega (arith, f.6));
         });
         messages = none_told (λ (p : Packet). Pooled (moved w n y []) p);
@@ -82,7 +89,7 @@ module _ {M : Machine} where
         member = λ a z ne o k op i. let old : MemberOk w.log z.core.lock n x = k.members op n x at i in record { near = old.near; free = old.free; heads = old.heads };
       })
 
-  -- THE RECORD IN DOUBT
+  -- The record in doubt
   -- it is found in the log
   pub take_keeps : (w : World M) (r : Entry) → Invariant w → w.log.doubtful ≡ Some r → Invariant (with_log (plus w.log r w.log.doubtful_view) w)
   take_keeps w r j mb =
@@ -92,15 +99,17 @@ module _ {M : Machine} where
       let num : v.number ≡ w.log.doubtful_view = j.chain.chain.numbered w.log.doubtful_view v dv.1 in
       let w' : World M = grown_world w r v.number w.nodes w.pool w.acks in
       let gs : Grows w r v w.nodes w.pool w.acks = record {
-        ext = record { log = longer_plus M w.log r v.number; chain = λ u t e. e; starts = λ n. omega arith; nodes = λ n y at le. (y, at, grown_refl y) };
+        ext = record { log = longer_plus M w.log r v.number; chain = λ u t e. e; starts = λ n. omega arith; requests = λ m i q u e. e; nodes = λ n y at le. (y, at, grown_refl y) };
         place = d.0;
         view = ap (view_in w.chain) num ∙ dv.1;
         told = λ a p e. e;
+        near = λ m z at wt id. (j.nodes m z at).near_doubt r wt mb id;
         alone = λ m z s at wt st id. (j.nodes m z at).waiting_doubt s r v wt st id mb dv.1;
       } in
       let nw : NewOk w r v = record {
         positive = d.1;
         asked = d.2;
+        requested = j.log.doubt_requested r mb;
         new = d.3;
         inc = dv.2;
         member = dv.3;
@@ -123,8 +132,10 @@ module _ {M : Machine} where
   drop_keeps w j = less_keeps w w.nodes None w.log.doubtful_view w.log.held j (record {
     fewer = λ m z e. e;
     waiting = λ m z a s u e wt st id q. absurd (cc);
+    near = λ m z r e wt q. absurd (cc);
     doubt = λ r e. absurd (cc);
     doubt_view = λ r e. absurd (cc);
+    doubt_requested = λ r e. absurd (cc);
     doubt_held = λ r e. absurd (cc);
     doubt_last = λ r s e. absurd (cc);
     doubt_recovered = λ r e. absurd (cc);
@@ -143,7 +154,7 @@ module _ {M : Machine} where
       (λ none. (j, none))
       (λ e some. if_cases P found _ _ (λ t. (take_keeps w e j some, refl)) (λ t. (drop_keeps w j, refl)))
 
-  -- THE CLAIM: the log is recovered in a view
+  -- The claim: the log is recovered in a view
   pub record ClaimOk (w : World M) (v : View) : Type 0 where
     pub none : w.log.doubtful ≡ None
     pub declared : view_in w.chain v.number ≡ Some v
@@ -165,6 +176,7 @@ module _ {M : Machine} where
     };
     chain = λ u t e. e;
     starts = λ n. omega arith;
+    requests = λ m i q u e. e;
     nodes = λ n y at le. (y, at, grown_refl y);
   }
 
@@ -197,6 +209,9 @@ module _ {M : Machine} where
           logged = λ r s. j.log.logged r (record { at = s.at });
           doubt = λ r q. absurd (none r q);
           doubt_view = λ r q. absurd (none r q);
+          requested = λ r s. j.log.requested r (record { at = s.at });
+          doubt_requested = λ r q. absurd (none r q);
+          unasked = j.log.unasked;
           counts = λ u c i. ⊎_elim
               (λ (d : (u ≡ v.number) × (length w.log.order ≡ c)).
               (omega (arith, d.1), omega (arith, d.0), v, ap (view_in w.chain) d.0 ∙ k.declared, subst (λ (t : ℕ). Entered w' (locker_of v.members) (inc_of v.members (locker_of v.members)) t) (sym d.0) (entered_ w w' (locker_of v.members) (inc_of v.members (locker_of v.members)) v.number e k.entered_)))
@@ -246,6 +261,10 @@ module _ {M : Machine} where
           last = h.last;
           idle = h.idle;
           unsettled = h.unsettled;
+          full_state = h.full_state;
+          pulling = h.pulling;
+          queued = h.queued;
+          all_requests = h.all_requests;
           ready_state = λ c. let a = h.ready_state c in (a.0, a.1, lift z.join.view.number a.1 a.2, a.3);
           below = λ u c i b. ⊎_elim
               (λ (d : (u ≡ v.number) × (length w.log.order ≡ c)). omega (arith, d.1, h.within))
@@ -267,6 +286,9 @@ module _ {M : Machine} where
           waiting = λ r s u wt sr id ss. h.waiting r s u wt (record { at = sr.at }) id (record { at = ss.at });
           waiting_doubt = λ r s u wt sr id q. absurd (none s q);
           behind = λ r c wt sr id rd i. h.behind r c wt (record { at = sr.at }) id rd (ready_old m z at rd c i);
+          near_head = λ r wt sr id. h.near_head r wt (record { at = sr.at }) id;
+          near_doubt = h.near_doubt;
+          outcome = λ r f sr id le. h.outcome r f (record { at = sr.at }) id le;
           finished = λ q p b. let f = h.finished q p b in (f.0, f.1, f.2, record { at = f.3.at }, f.4, f.5, f.6);
         };
         owner = λ m z o. absurd (let a = (j.nodes m z o.runs).ready_state o.ready in omega (arith, o.held, (j.log.counts z.join.view.number a.1 a.2).1, k.higher));

@@ -7,12 +7,13 @@ use Rattle.gum_messages.specs.Members.{inc_of, locker_of}
 use Rattle.gum_messages.specs.Places.{at_place}
 use Rattle.gum_messages.proofs.Placing.{place_within}
 use Rattle.update_records.specs.Entry.{Entry}
+use Rattle.update_records.specs.declared.update.Update.{Update}
 use Rattle.view_reconcile.specs.Chains.{view_in}
 use Rattle.cluster_rules.specs.Machines.{Machine, registry_at}
 use Rattle.cluster_rules.specs.Packets.{Body, Packet, Ask, Granted, Apply, Applied, Release, Offer, Need, Piece, Ready, OpenView}
 use Rattle.cluster_rules.specs.Nodes.{NodeState, done_of}
 use Rattle.cluster_rules.specs.Worlds.{Log, World}
-use Rattle.cluster_laws.proofs.Inv.{AllReached, Asked, Clear, Entered, Finished, LoggedIn, MsgOk, NotBefore, Pooled, Reached, Stands, WasReady, greatest_asked, state_bytes, waits}
+use Rattle.cluster_laws.proofs.Inv.{AllReached, Asked, Clear, Entered, Finished, LoggedIn, MsgOk, NotBefore, Pooled, Reached, Requested, Stands, WasReady, greatest_asked, state_bytes, waits}
 
 -- what the log may become
 pub record Longer (M : Machine) (l l' : Log) : Type 0 where
@@ -41,6 +42,7 @@ module _ {M : Machine} where
     pub log : Longer M w.log w'.log
     pub chain : (v : ℕ) (u : View) → view_in w.chain v ≡ Some u → view_in w'.chain v ≡ Some u
     pub starts : (n : ℕ) → w.starts n ≤ w'.starts n
+    pub requests : (n i q : ℕ) (u : Update) → Requested w n i q u → Requested w' n i q u
     pub nodes : (n : ℕ) (y : NodeState M) → w'.nodes n ≡ Some y → y.join.inc ≤ w.starts n → (x : NodeState M) × (w.nodes n ≡ Some x) × Grown x y
 
   pub grown_refl : (x : NodeState M) → Grown x x
@@ -146,7 +148,7 @@ module _ {M : Machine} where
   bytes_stay w w' c e b = ap M.encode (sym (e.log.fold c b))
 
   pub message_ok : (w w' : World M) (v : View) (from to : ℕ) (b : Body) → Ext w w' → AskedOnly w → ((c : ℕ) → w.log.count v.number ≡ Some c → c ≤ length w.log.order) → MsgOk w v from to b → MsgOk w' v from to b
-  message_ok w w' v from to (Ask q u) e a b h = (h.0, e.log.count v.number h.0 h.1, not_before w.log w'.log from (inc_of v.members from) q h.0 e.log (b h.0 h.1) h.2, asked_ w w' from (inc_of v.members from) q e h.3)
+  message_ok w w' v from to (Ask q u) e a b h = (h.0, e.log.count v.number h.0 h.1, not_before w.log w'.log from (inc_of v.members from) q h.0 e.log (b h.0 h.1) h.2, asked_ w w' from (inc_of v.members from) q e h.3, e.requests from (inc_of v.members from) q u h.4)
   message_ok w w' v from to (Granted r) e a b h = (logged_in w.log w'.log r v.number e.log h.0, h.1, h.2, reached w w' (locker_of v.members) (inc_of v.members (locker_of v.members)) r.place e h.3)
   message_ok w w' v from to (Apply r) e a b h = logged_in w.log w'.log r v.number e.log h
   message_ok w w' v from to (Applied k) e a b h = reached w w' from (inc_of v.members from) k e h

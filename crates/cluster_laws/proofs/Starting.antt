@@ -1,10 +1,11 @@
 -- Nodes start, and views are declared.
-use Rattle.std.proofs.Common.{◌≡◌, ◌≢◌, ⊎_elim, ℕ, ◌+◌, ◌<◌, ◌≤◌, Bool, true, false, List, [], ◌∷◌, ◌++◌, length, Option, Some, None, is_none, nat_eq, nat_lt, nat_le, cond, refl, sym, ap, ◌∙◌, subst, arith}
+use Rattle.std.proofs.Common.{◌≡◌, ◌≢◌, ⊎_elim, ℕ, ◌+◌, ◌<◌, ◌≤◌, Bool, true, false, List, [], ◌∷◌, ◌++◌, length, Option, Some, None, is_none, nat_eq, nat_lt, nat_le, cond, slice_get, refl, sym, ap, ◌∙◌, subst, arith}
 use Rattle.gum_messages.specs.declared.member.Member.{Member}
 use Rattle.gum_messages.specs.declared.view.View.{View}
 use Rattle.gum_messages.specs.Members.{inc_of, locker_of}
 use Rattle.gum_messages.proofs.Branches.{if_cases}
 use Rattle.gum_messages.proofs.Placing.{place_new, place_old, place_push}
+use Rattle.update_records.specs.declared.update.Update.{Update}
 use Rattle.view_reconcile.specs.Joining.{ReconcileState}
 use Rattle.view_reconcile.specs.Joining as joining
 use Rattle.view_reconcile.specs.Chains.{IsChain, fault_of, view_in}
@@ -43,12 +44,15 @@ started_locker starts (m ∷ ms) f e =
     refl_eq : (n : ℕ) → nat_eq n n ≡ true
     refl_eq n = grind arith
 
+pub no_update : (k : ℕ) (u : Update) → slice_get [] k ≡ Some u → ⊥
+no_update k u e = cc
+
 pub is_none_says : {A : Type 0} (o : Option A) → is_none o ≡ true → o ≡ None
 is_none_says None e = refl
 is_none_says (Some a) e = cc
 
 module _ {M : Machine} where
-  -- A NODE STARTS
+  -- A node starts
   abbrev pub started_world : World M → ℕ → World M
   started_world w n = record w { nodes = put w.nodes n (Some (fresh M n (w.starts n + 1))); starts = put w.starts n (w.starts n + 1) }
 
@@ -57,6 +61,7 @@ module _ {M : Machine} where
     log = longer_refl w.log;
     chain = λ v u e. e;
     starts = λ m. grows m;
+    requests = λ m i q u e. e;
     nodes = λ m y at le. ⊎_elim
         (λ (c : (m ≡ n) × (Some (fresh M n (w.starts n + 1)) ≡ Some y)). absurd (let q : fresh M n (w.starts n + 1) ≡ y = cc in let i : w.starts n + 1 ≡ y.join.inc = ap (λ (t : NodeState M). t.join.inc) q in omega (arith, i, ap w.starts c.0)))
         (λ (c : (m ≢ n) × (w.nodes m ≡ Some y)). (y, c.1, grown_refl y))
@@ -66,8 +71,8 @@ module _ {M : Machine} where
       grows : (m : ℕ) → w.starts m ≤ put w.starts n (w.starts n + 1) m
       grows m = if_cases (λ (k : ℕ). w.starts m ≤ k) (nat_eq m n) (w.starts n + 1) (w.starts m) (λ e. omega (arith, ap w.starts (eq_true m n e))) (λ e. omega arith)
 
-  pub fresh_ok : (w : World M) (n : ℕ) → NodeOk (started_world w n) n (fresh M n (w.starts n + 1))
-  fresh_ok w n = record {
+  pub fresh_ok : (w : World M) (n : ℕ) → length (w.requests n (w.starts n + 1)) ≡ 0 → NodeOk (started_world w n) n (fresh M n (w.starts n + 1))
+  fresh_ok w n un = record {
     node = refl;
     inc = sym (put_same w.starts n (w.starts n + 1));
     positive = omega arith;
@@ -97,6 +102,13 @@ module _ {M : Machine} where
     waiting = λ r s u wt. absurd (wt.0 refl);
     waiting_doubt = λ r s u wt. absurd (wt.0 refl);
     behind = λ r c wt. absurd (wt.0 refl);
+    near_head = λ r wt. absurd (wt.0 refl);
+    near_doubt = λ r wt. absurd (wt.0 refl);
+    full_state = λ f. absurd (f refl);
+    pulling = λ o e. absurd (cc);
+    outcome = λ r f. absurd (f refl);
+    queued = λ k u e. absurd (no_update k u e);
+    all_requests = un;
     finished = λ q one le. absurd (omega arith);
   }
 
@@ -113,6 +125,8 @@ module _ {M : Machine} where
           ids = j.log.ids;
           logged = j.log.logged;
           doubt_view = j.log.doubt_view;
+          requested = j.log.requested;
+          doubt_requested = j.log.doubt_requested;
           recovered = j.log.recovered;
           doubt_recovered = j.log.doubt_recovered;
           rising = j.log.rising;
@@ -125,11 +139,12 @@ module _ {M : Machine} where
           bounds = j.log.bounds;
           asked = λ r s. let a = j.log.asked r s in (a.0, asked_ w w' r.id.node r.id.inc r.id.req e a.1);
           doubt = λ r s. let a = j.log.doubt r s in (a.0, a.1, asked_ w w' r.id.node r.id.inc r.id.req e a.2, a.3);
+          unasked = λ m i lt. j.log.unasked m i (omega (arith, e.starts m, lt));
           counts = λ v c s. let a = j.log.counts v c s in (a.0, a.1, a.2, a.3, entered_ w w' (locker_of a.2.members) (inc_of a.2.members (locker_of a.2.members)) v e a.4);
           held = λ s. let a = j.log.held s in (a.0, a.1, entered_ w w' (locker_of a.0.members) (inc_of a.0.members (locker_of a.0.members)) w.log.held e a.2);
         };
         nodes = λ m z at. ⊎_elim
-            (λ (c : (m ≡ n) × (Some y ≡ Some z)). at_self (λ (a : ℕ) (b : NodeState M). NodeOk w' a b) m n y z c.0 c.1 (fresh_ok w n))
+            (λ (c : (m ≡ n) × (Some y ≡ Some z)). at_self (λ (a : ℕ) (b : NodeState M). NodeOk w' a b) m n y z c.0 c.1 (fresh_ok w n (j.log.unasked n (w.starts n + 1) (omega arith))))
             (λ (c : (m ≢ n) × (w.nodes m ≡ Some z)). let h : NodeOk w m z = j.nodes m z c.1 in record {
               node = h.node;
               positive = h.positive;
@@ -156,6 +171,13 @@ module _ {M : Machine} where
               waiting = h.waiting;
               waiting_doubt = h.waiting_doubt;
               behind = h.behind;
+              near_head = h.near_head;
+              near_doubt = h.near_doubt;
+              full_state = h.full_state;
+              pulling = h.pulling;
+              outcome = h.outcome;
+              queued = h.queued;
+              all_requests = h.all_requests;
               finished = h.finished;
               inc = h.inc ∙ sym (put_other w.starts n (w.starts n + 1) m c.0);
               marked = λ b i p. was_ready w w' b (inc_of z.join.view.members b) z.join.view.number e ao (h.marked b i p);
@@ -185,7 +207,7 @@ module _ {M : Machine} where
         acks = λ a v i s. let g = j.acks a v i s in record { view = g.view; declared = g.declared; place = g.place; later = g.later; members = all_reached w w' g.view.members i e g.members };
       }
 
-  -- A VIEW IS DECLARED
+  -- A view is declared
   abbrev pub declared_world : World M → View → World M
   declared_world w v = record w { chain = w.chain ++ v ∷ [] }
 
@@ -195,7 +217,7 @@ module _ {M : Machine} where
       let a = and_true (list_all (was_started w.starts) v.members) (is_none (fault_of w.chain v)) g in
       let new : IsChain w'.chain = stays_chain w.chain v j.chain.chain (is_none_says (fault_of w.chain v) a.1) in
       let old : (k : ℕ) (u : View) → view_in w.chain k ≡ Some u → view_in w'.chain k ≡ Some u = λ k u e. place_old w.chain v k u e in
-      let e : Ext w w' = record { log = longer_refl w.log; chain = old; starts = λ m. omega arith; nodes = λ m y at le. (y, at, grown_refl y) } in
+      let e : Ext w w' = record { log = longer_refl w.log; chain = old; starts = λ m. omega arith; requests = λ m i q u e. e; nodes = λ m y at le. (y, at, grown_refl y) } in
       let ao : AskedOnly w = λ r s. (j.log.asked r s).1 in
       -- a view that was declared is the same one
       let same : (k : ℕ) (u t : View) → view_in w.chain k ≡ Some u → view_in w'.chain k ≡ Some t → u ≡ t = λ k u t b c. let q : Some u ≡ Some t = sym (old k u b) ∙ c in cc in
@@ -214,6 +236,9 @@ module _ {M : Machine} where
         log = record {
           places = j.log.places;
           ids = j.log.ids;
+          requested = j.log.requested;
+          doubt_requested = j.log.doubt_requested;
+          unasked = j.log.unasked;
           recovered = j.log.recovered;
           doubt_recovered = j.log.doubt_recovered;
           rising = j.log.rising;
@@ -255,6 +280,13 @@ module _ {M : Machine} where
           settled = h.settled;
           unsettled = h.unsettled;
           behind = h.behind;
+          near_head = h.near_head;
+          near_doubt = h.near_doubt;
+          full_state = h.full_state;
+          pulling = h.pulling;
+          outcome = h.outcome;
+          queued = h.queued;
+          all_requests = h.all_requests;
           finished = h.finished;
           view = λ nz. let b = h.view nz in (old z.join.view.number z.join.view b.0, b.1);
           marked = λ b i p. was_ready w w' b (inc_of z.join.view.members b) z.join.view.number e ao (h.marked b i p);

@@ -7,9 +7,9 @@ use Rattle.view_reconcile.specs.Joining.{ReconcileState}
 use Rattle.view_reconcile.specs.Joining as joining
 use Rattle.view_reconcile.specs.Chains.{view_in}
 use Rattle.cluster_rules.specs.Machines.{Machine}
-use Rattle.cluster_rules.specs.Nodes.{NodeState, Replica, halts}
+use Rattle.cluster_rules.specs.Nodes.{NodeState, Replica, done_of, halts}
 use Rattle.cluster_rules.specs.Worlds.{World, absorb, put, stopped, with_log}
-use Rattle.cluster_laws.proofs.Inv.{Asked, Entered, Has, Invariant, LogOk, NodeOk, NotBefore, Owner, OwnerOk, Stands, at_head, waits}
+use Rattle.cluster_laws.proofs.Inv.{Asked, Entered, Has, Invariant, LogOk, NodeOk, NotBefore, Owner, OwnerOk, Requested, Stands, at_head, waits}
 use Rattle.cluster_laws.proofs.Stable.{AskedOnly, Ext, all_reached, asked_, entered_, grown_refl, pooled, reached, was_ready}
 use Rattle.cluster_laws.proofs.Moves.{put_cases}
 use Rattle.cluster_laws.proofs.Appending.{Fresh, append_grows, append_new, owner_unique}
@@ -24,10 +24,12 @@ module _ {M : Machine} where
     pub waiting : (m : ℕ) (z : NodeState M) (a s : Entry) (u : View) → nodes m ≡ Some z → waits z → Stands w.log a → Has a m z.join.inc (at_head z) → mb ≡ Some s → view_in w.chain mv ≡ Some u → inc_of u.members m ≢ z.join.inc
     pub doubt : (r : Entry) → mb ≡ Some r → (r.place ≡ length w.log.order + 1) × (1 ≤ r.id.req) × Asked w r.id.node r.id.inc r.id.req × NotBefore w.log r.id.node r.id.inc r.id.req (length w.log.order)
     pub doubt_view : (r : Entry) → mb ≡ Some r → (u : View) × (view_in w.chain mv ≡ Some u) × (r.id.inc ≡ inc_of u.members r.id.node) × (0 < r.id.inc)
+    pub doubt_requested : (r : Entry) → mb ≡ Some r → Requested w r.id.node r.id.inc r.id.req r.update
     pub doubt_held : (r : Entry) → mb ≡ Some r → mv ≤ hd
     pub doubt_last : (r s : Entry) → mb ≡ Some r → Stands w.log s → w.log.view_at s.place ≤ mv
     pub doubt_recovered : (r : Entry) → mb ≡ Some r → (c : ℕ) × (w.log.count mv ≡ Some c)
     pub doubt_low : (r : Entry) (u c : ℕ) → mb ≡ Some r → w.log.count u ≡ Some c → u ≤ mv
+    pub near : (m : ℕ) (z : NodeState M) (r : Entry) → nodes m ≡ Some z → waits z → mb ≡ Some r → Has r m z.join.inc (at_head z) → length w.log.order ≤ done_of z
     pub held : w.log.held ≤ hd
     pub held_view : hd ≢ 0 → (u : View) × (view_in w.chain hd ≡ Some u) × Entered (less w nodes mb mv hd) (locker_of u.members) (inc_of u.members (locker_of u.members)) hd
     pub owner : (m : ℕ) (z : NodeState M) → nodes m ≡ Some z → joining.is_ready z.join ≡ true → joining.locks z.join ≡ true → z.join.view.number ≡ hd → (hd ≡ w.log.held) × (mb ≡ None)
@@ -37,6 +39,7 @@ module _ {M : Machine} where
     log = record { within = omega arith; cap = refl; order = λ i h. refl; fold = λ i h. refl; view_at = λ i h. refl; count = λ v c e. e };
     chain = λ v u e. e;
     starts = λ n. omega arith;
+    requests = λ m i q u e. e;
     nodes = λ n y at le. (y, k.fewer n y at, grown_refl y);
   }
 
@@ -66,6 +69,10 @@ module _ {M : Machine} where
         closed = h.closed;
         idle = h.idle;
         unsettled = h.unsettled;
+        full_state = h.full_state;
+        pulling = h.pulling;
+        queued = h.queued;
+        all_requests = h.all_requests;
         lock = λ l f. let t = h.lock l f in (t.0, t.1, t.2, t.3, record { at = t.4.at; view = t.4.view }, t.5, t.6, t.7, t.8);
         marked = λ b c p. was_ready w w' b (inc_of y.join.view.members b) y.join.view.number e a (h.marked b c p);
         all_ready = λ c b p. was_ready w w' b (inc_of y.join.view.members b) y.join.view.number e a (h.all_ready c b p);
@@ -75,6 +82,9 @@ module _ {M : Machine} where
         waiting = λ r s u wt sr id ss. h.waiting r s u wt (record { at = sr.at }) id (record { at = ss.at });
         waiting_doubt = λ r s u wt sr id. k.waiting m y r s u at wt (record { at = sr.at }) id;
         behind = λ r c wt sr id. h.behind r c wt (record { at = sr.at }) id;
+        near_head = λ r wt sr id. h.near_head r wt (record { at = sr.at }) id;
+        near_doubt = λ r wt mb id. k.near m y r at wt mb id;
+        outcome = λ r f sr id le. h.outcome r f (record { at = sr.at }) id le;
         finished = λ q p b. let f = h.finished q p b in (f.0, f.1, f.2, record { at = f.3.at }, f.4, f.5, f.6);
       }
 
@@ -90,6 +100,9 @@ module _ {M : Machine} where
         logged = λ r s. h.logged r (old r s);
         doubt = λ r f. let a = k.doubt r f in (a.0, a.1, asked_ w w' r.id.node r.id.inc r.id.req e a.2, record { none = a.3.none });
         doubt_view = k.doubt_view;
+        requested = λ r s. h.requested r (old r s);
+        doubt_requested = k.doubt_requested;
+        unasked = h.unasked;
         counts = λ v c s. let a = h.counts v c s in (a.0, omega (arith, a.1, k.held), a.2, a.3, entered_ w w' (locker_of a.2.members) (inc_of a.2.members (locker_of a.2.members)) v e a.4);
         recovered = λ r s. h.recovered r (old r s);
         doubt_recovered = k.doubt_recovered;
@@ -139,8 +152,10 @@ module _ {M : Machine} where
   stop_keeps w n j = less_keeps w (put w.nodes n None) w.log.doubtful w.log.doubtful_view w.log.held j (record {
     fewer = λ m z e. (without w n m z e).1;
     waiting = λ m z a s u e. (j.nodes m z (without w n m z e).1).waiting_doubt a s u;
+    near = λ m z r e. (j.nodes m z (without w n m z e).1).near_doubt r;
     doubt = j.log.doubt;
     doubt_view = j.log.doubt_view;
+    doubt_requested = j.log.doubt_requested;
     doubt_held = j.log.doubt_held;
     doubt_last = j.log.doubt_last;
     doubt_recovered = j.log.doubt_recovered;
@@ -172,8 +187,10 @@ module _ {M : Machine} where
             let g : Some x.join.view ≡ Some u = sym vw ∙ vu in
             let same : x.join.view ≡ u = cc in
             subst (λ (v : View). inc_of v.members m ≢ z.join.inc) same (gs.alone m z a (without w n m z e).1 wt st id);
+        near = λ m z a e wt q id. gs.near m z (without w n m z e).1 wt (subst (λ (t : Entry). Has t m z.join.inc (at_head z)) (sym (is a q)) id);
         doubt = λ a e. subst (λ (a : Entry). (a.place ≡ length w.log.order + 1) × (1 ≤ a.id.req) × Asked w a.id.node a.id.inc a.id.req × NotBefore w.log a.id.node a.id.inc a.id.req (length w.log.order)) (is a e) (gs.place, k.positive, k.asked, k.new);
         doubt_view = λ a e. subst (λ (a : Entry). (u : View) × (view_in w.chain x.join.view.number ≡ Some u) × (a.id.inc ≡ inc_of u.members a.id.node) × (0 < a.id.inc)) (is a e) (x.join.view, vw, k.inc, k.member);
+        doubt_requested = λ a e. subst (λ (a : Entry). Requested w a.id.node a.id.inc a.id.req a.update) (is a e) k.requested;
         doubt_held = λ a e. k.held;
         doubt_last = λ a t e st. k.last t st;
         doubt_recovered = λ a e. k.recovered;

@@ -5,16 +5,17 @@ use Rattle.gum_messages.specs.Members.{inc_of}
 use Rattle.gum_messages.specs.Places.{at_place}
 use Rattle.gum_messages.proofs.Branches.{if_cases, option_cases}
 use Rattle.gum_messages.proofs.Placing.{place_within}
+use Rattle.update_records.specs.declared.update.Update.{Update}
 use Rattle.view_reconcile.specs.Joining.{ReconcileState}
 use Rattle.view_reconcile.specs.Joining as joining
 use Rattle.view_reconcile.specs.Chains.{view_in}
 use Rattle.cluster_rules.specs.Machines.{Machine, IsMachine}
 use Rattle.cluster_rules.specs.Packets.{Body, Packet, Ask, Granted, Apply, Applied, Release, Offer, Need, Piece, Ready, OpenView}
 use Rattle.cluster_rules.specs.Nodes.{NodeState, done_of, fresh, members_of, number_of}
-use Rattle.cluster_rules.specs.Updates.{Answer, Logged, submit}
+use Rattle.cluster_rules.specs.Updates.{Answer, Logged, may_submit, submit}
 use Rattle.cluster_rules.specs.Receiving.{checkpoint, clock, receive, tick}
 use Rattle.cluster_rules.specs.Receiving as receiving
-use Rattle.cluster_rules.specs.Worlds.{Checkpoint, Clock, Declare, Deliver, Die, DieInDeliver, DieInInstall, Event, Install, Start, Submit, Tick, World, absorb, at_node, deliver, die_in_deliver, die_in_install, happens, install, leave, logs, may_declare, opening, put, run, stopped, with_log, written}
+use Rattle.cluster_rules.specs.Worlds.{Checkpoint, Clock, Declare, Deliver, Die, DieInDeliver, DieInInstall, Event, Install, Start, Submit, Tick, World, absorb, at_node, deliver, die_in_deliver, die_in_install, happens, install, leave, logs, may_declare, noted, opening, put, run, stopped, with_log, written}
 use Rattle.cluster_rules.specs.Promises.{Kept, Safe}
 use Rattle.cluster_laws.proofs.Inv.{AckOk, AllReached, Invariant, MsgOk, NodeOk, Pooled}
 use Rattle.cluster_laws.proofs.Moves.{none_acked, none_told, stay_keeps}
@@ -37,7 +38,7 @@ pub at_get : {A : Type 0} (l : List A) (k : ℕ) (a : A) → at_place l k ≡ So
 at_get l k a e = sym (at_place-above l k ((place_within l k a e).0)) ∙ e
 
 module _ {M : Machine} where
-  -- A MESSAGE COMES
+  -- A message comes
   hears_keeps : IsMachine M → (w : World M) (n : ℕ) (x : NodeState M) (from : ℕ) (b : Body) (answer : Answer) → Invariant w → w.nodes n ≡ Some x → 0 < inc_of x.join.view.members from → x.join.view.number ≢ 0 → (joining.locks x.join ≡ true → joining.is_ready x.join ≡ true) → MsgOk w x.join.view from n b → Keeps w n x (receiving.hears x from b w.log.held answer)
   hears_keeps law w n x from (Ask q u) answer j at pos nz lr ok = on_ask_keeps w n x from q u answer j at pos ok
   hears_keeps law w n x from (Granted r) answer j at pos nz lr ok = on_granted_keeps w n x from r j at nz ok
@@ -87,7 +88,7 @@ module _ {M : Machine} where
       (λ g. let c = counted_ok w n x p j at po to g in hears_dies w n x p.from p.body answer j at c.0 c.2)
       (λ g. stop_keeps w n j)
 
-  -- EACH EVENT
+  -- Each event
   pub at_keeps : (P : World M → Type 0) (w : World M) (n : ℕ) (f : NodeState M → World M) → P w → ((x : NodeState M) → w.nodes n ≡ Some x → P (f x)) → P (at_node w n f)
   at_keeps P w n f h g = option_cases P (w.nodes n) w f (λ none. h) g
 
@@ -98,11 +99,11 @@ module _ {M : Machine} where
   happens_keeps law w (Start n) j lo = option_cases (λ (u : World M). Invariant u) (w.nodes n) (started_world w n) (λ x. w) (λ none. start_keeps w n j none) (λ x some. j)
   happens_keeps law w (Declare v) j lo = if_cases (λ (u : World M). Invariant u) (may_declare w v) _ _ (λ g. declare_keeps w v j g) (λ g. j)
   happens_keeps law w (Install n v opening) j lo = at_keeps (λ (u : World M). Invariant u) w n (λ x. elim (view_in w.chain v) [ None ↦ w | Some u ↦ install w n x u opening ]) j
-      (λ x at. option_cases (λ (u : World M). Invariant u) (view_in w.chain v) w (λ u. install w n x u opening) (λ none. j) (λ u some. install_keeps w n x u opening j at (view_at_number w v u j some)))
+      (λ x at. option_cases (λ (u : World M). Invariant u) (view_in w.chain v) w (λ u. install w n x u opening) (λ none. j) (λ u some. install_keeps law w n x u opening j at (view_at_number w v u j some)))
   happens_keeps law w (Deliver k answer) j lo = option_cases (λ (u : World M). Invariant u) (at_place w.pool k) w (λ p. deliver w p answer) (λ none. j)
       (λ p some. option_cases (λ (u : World M). Invariant u) (w.nodes p.to) w (λ x. absorb p.to (receive x p w.log.held answer).out (logs (number_of x) (receive x p w.log.held answer) w)) (λ none. j)
       (λ x at. receive_keeps law w p.to x p answer j lo at (j.pool (k - 1) p (at_get w.pool k p some)) refl))
-  happens_keeps law w (Submit n u) j lo = at_keeps (λ (v : World M). Invariant v) w n (λ x. absorb n (submit x u) w) j (λ x at. submit_keeps w n x u j at)
+  happens_keeps law w (Submit n u) j lo = at_keeps (λ (v : World M). Invariant v) w n (λ x. absorb n (submit x u) (noted n x u w)) j (λ x at. submit_keeps w n x u j at)
   happens_keeps law w (Tick n) j lo = at_keeps (λ (v : World M). Invariant v) w n (λ x. absorb n (tick x) w) j (λ x at. tick_keeps law w n x j at (lo n x at))
   happens_keeps law w (Clock n stamp) j lo = at_keeps (λ (v : World M). Invariant v) w n (λ x. absorb n (clock x stamp) w) j (λ x at. clock_keeps w n x stamp j at)
   happens_keeps law w (Checkpoint n good) j lo = at_keeps (λ (v : World M). Invariant v) w n (λ x. absorb n (checkpoint x w.log.held good) w) j (λ x at. checkpoint_keeps w n x good j at)
@@ -114,6 +115,9 @@ module _ {M : Machine} where
       (λ x at. option_cases (λ (u : World M). Invariant u) (view_in w.chain v) w (λ u. die_in_install w n x u raised) (λ none. j) (λ u some. die_in_install_keeps w n x u raised j at (view_at_number w v u j some)))
 
   -- the lockers
+  noted_nodes : (w : World M) (n : ℕ) (x : NodeState M) (u : Update) → (noted n x u w).nodes ≡ w.nodes
+  noted_nodes w n x u = if_cases (λ (v : World M). v.nodes ≡ w.nodes) (may_submit x) _ _ (λ g. refl) (λ g. refl)
+
   fewer_lockers : (w w' : World M) (n : ℕ) → Lockers w → w'.nodes ≡ put w.nodes n None → Lockers w'
   fewer_lockers w w' n lo e = lockers_absorb w w' n None lo e (λ y q. absurd (cc))
 
@@ -127,7 +131,7 @@ module _ {M : Machine} where
   lockers_keep w (Deliver k answer) lo = option_cases (λ (u : World M). Lockers u) (at_place w.pool k) w (λ p. deliver w p answer) (λ none. lo)
       (λ p some. option_cases (λ (u : World M). Lockers u) (w.nodes p.to) w (λ x. absorb p.to (receive x p w.log.held answer).out (logs (number_of x) (receive x p w.log.held answer) w)) (λ none. lo)
       (λ x at. lockers_stay w (absorb p.to (receive x p w.log.held answer).out (logs (number_of x) (receive x p w.log.held answer) w)) p.to x (receive x p w.log.held answer).out.node lo at refl (receive_stays x p w.log.held answer)))
-  lockers_keep w (Submit n u) lo = at_keeps (λ (v : World M). Lockers v) w n (λ x. absorb n (submit x u) w) lo (λ x at. lockers_stay w (absorb n (submit x u) w) n x (submit x u).node lo at refl (submit_stays x u))
+  lockers_keep w (Submit n u) lo = at_keeps (λ (v : World M). Lockers v) w n (λ x. absorb n (submit x u) (noted n x u w)) lo (λ x at. lockers_stay w (absorb n (submit x u) (noted n x u w)) n x (submit x u).node lo at (ap (λ (f : ℕ → Option (NodeState M)). put f n (submit x u).node) (noted_nodes w n x u)) (submit_stays x u))
   lockers_keep w (Tick n) lo = at_keeps (λ (v : World M). Lockers v) w n (λ x. absorb n (tick x) w) lo (λ x at. lockers_stay w (absorb n (tick x) w) n x (Some x) lo at refl (stays_same x x refl))
   lockers_keep w (Clock n stamp) lo = at_keeps (λ (v : World M). Lockers v) w n (λ x. absorb n (clock x stamp) w) lo (λ x at. lockers_stay w (absorb n (clock x stamp) w) n x (clock x stamp).node lo at refl (stays_same x (record x { stamp = stamp }) refl))
   lockers_keep w (Checkpoint n good) lo = at_keeps (λ (v : World M). Lockers v) w n (λ x. absorb n (checkpoint x w.log.held good) w) lo (λ x at. lockers_stay w (absorb n (checkpoint x w.log.held good) w) n x (checkpoint x w.log.held good).node lo at refl (checkpoint_stays x w.log.held good))
@@ -156,6 +160,9 @@ module _ (M : Machine) where
       ids = λ r s h. absurd (none_in r.place r h.at);
       asked = λ r h. absurd (none_in r.place r h.at);
       logged = λ r h. absurd (none_in r.place r h.at);
+      requested = λ r h. absurd (none_in r.place r h.at);
+      doubt_requested = λ r e. absurd (cc);
+      unasked = λ n i lt. refl;
       doubt = λ r e. absurd (cc);
       doubt_view = λ r e. absurd (cc);
       counts = λ v c e. absurd (cc);
@@ -193,6 +200,7 @@ module _ (M : Machine) where
         let pa : d.place ≡ a = j.log.places a d at_a in
         let pb : e.place ≡ b = j.log.places b e at_b in
         sym pa ∙ j.log.ids d e (record { at = ap (at_place w.log.order) pa ∙ at_a }) (record { at = ap (at_place w.log.order) pb ∙ at_b }) (λ i. (same i).node) (λ i. (same i).inc) (λ i. (same i).req) ∙ pb;
+    updates = λ k e at. j.log.requested e (record { at = ap (at_place w.log.order) (j.log.places k e at) ∙ at });
     next = λ e d. (j.log.doubt e d).0;
     apart = λ d e k dt at same.
         let pe : e.place ≡ k = j.log.places k e at in
@@ -213,7 +221,7 @@ module _ (M : Machine) where
         (s.0, s.1, omega (arith, d, done_at x s.0 s.1));
   }
 
-  -- THE THEOREM
+  -- The theorem
   pub all_safe : IsMachine M → (cap : ℕ) (es : List Event) → Safe (run es (opening M cap))
   all_safe law cap es = safe (run es (opening M cap)) (run_keeps law es (opening M cap) (opening_ok cap) (λ n x e. absurd (cc)))
 

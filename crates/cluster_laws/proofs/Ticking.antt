@@ -13,7 +13,7 @@ use Rattle.view_reconcile.specs.declared.step.Step.{Step}
 use Rattle.view_reconcile.specs.declared.step.Step.TheVariants as step
 use Rattle.view_reconcile.specs.Joining.{ReconcileState}
 use Rattle.view_reconcile.specs.Joining as joining
-use Rattle.cluster_rules.specs.Machines.{Machine, IsMachine, replay}
+use Rattle.cluster_rules.specs.Machines.{Machine, IsMachine}
 use Rattle.cluster_rules.specs.Packets.{Body, Packet, Granted, Apply, Offer, Need, Ready}
 use Rattle.cluster_rules.specs.Nodes.{Effect, NodeState, Out, Replica, Send, done_of, halts, has_state, locker_at, members_of, number_of, packet}
 use Rattle.cluster_rules.specs.Updates.{tick_head, tick_lock}
@@ -23,11 +23,12 @@ use Rattle.cluster_rules.specs.Worlds.{World, absorb, acked, sent}
 use Rattle.cluster_laws.proofs.Inv.{AckOk, Invariant, LoggedIn, MemberOk, NodeOk, Pooled}
 use Rattle.cluster_laws.proofs.Stable.{Grown, grown_refl}
 use Rattle.cluster_laws.proofs.Moves.{move_keeps, moved, node_in, none_acked, none_told, one_told, owner_moves, slice_get_append, stay_keeps, stay_tells, told}
-use Rattle.cluster_laws.proofs.Applying.{and_true, done_at, lt_true, not_true, state_of}
+use Rattle.cluster_laws.proofs.Applying.{and_true, done_at, length_some, lt_true, not_true, state_of}
 use Rattle.gum_core.proofs.Cases.{ticked_cases}
 use Rattle.view_reconcile.proofs.Cases.{pulled_bytes_says}
+use Rattle.cluster_laws.proofs.Applying.{replay_cap}
 use Rattle.cluster_laws.proofs.HeadRules.{open_is_ready}
-use Rattle.cluster_laws.proofs.Heads.{ask_told, asks_acks, asks_told, full_asks, length_some}
+use Rattle.cluster_laws.proofs.Heads.{ask_told, asks_acks, asks_told, full_asks, head_requested}
 use Rattle.cluster_laws.proofs.Offering.{ready_sent}
 use Rattle.cluster_laws.proofs.Opening.{acked_append, sent_append}
 use Rattle.cluster_laws.proofs.Asking.{granted_ok}
@@ -54,11 +55,6 @@ tells_both P a b h g = record {
 }
 
 module _ {M : Machine} where
-  -- the capacity of a node's registry is the log's
-  pub replay_cap : IsMachine M → (l : List Entry) (g : M.Registry) → M.cap (replay M l g) ≡ M.cap g
-  replay_cap law [] g = refl
-  replay_cap law (e ∷ l) g = replay_cap law l (M.apply e g).0 ∙ law.keeps e g
-
   pub cap_is : IsMachine M → (w : World M) (n : ℕ) (x : NodeState M) → NodeOk w n x → has_state x ≡ true → offered_cap x ≡ w.log.cap
   cap_is law w n x h st =
       let s = state_of x st in
@@ -87,7 +83,7 @@ module _ {M : Machine} where
         quiet = asks_acks x (Some (x.core.passed + 1));
         each = asks_told P x (Some (x.core.passed + 1)) (λ req u us q e.
             let same : x.core.passed + 1 ≡ req = cc in
-            ask_told w n x x es req u j at (grown_refl x) refl refl refl rd (omega (arith, full_asks x full)) (λ r c st id i. h.behind r c (full, h.unsettled jo) st (record { node = id.node; inc = id.inc; req = id.req ∙ sym same }) rd i));
+            ask_told w n x x es req u j at (grown_refl x) refl refl refl rd (omega (arith, full_asks x full)) (head_requested w n x u us req h e (sym same)) (λ r c st id i. h.behind r c (full, h.unsettled jo) st (record { node = id.node; inc = id.inc; req = id.req ∙ sym same }) rd i));
       })
       (λ op some s sp to rc. option_cases (λ (l : List Effect). Tells P l) x.spreads [] (λ e. Send (packet x to (Apply e)) ∷ [])
       (λ none. tells_none P)
@@ -180,6 +176,13 @@ module _ {M : Machine} where
           waiting = h.waiting;
           waiting_doubt = h.waiting_doubt;
           behind = h.behind;
+          near_head = h.near_head;
+          near_doubt = h.near_doubt;
+          full_state = h.full_state;
+          pulling = h.pulling;
+          outcome = h.outcome;
+          queued = h.queued;
+          all_requests = h.all_requests;
           finished = h.finished;
         });
         messages = none_told (λ (p : Packet). Pooled (moved w n y []) p);

@@ -1,10 +1,11 @@
 -- The rules, seen to run: what comes of some lists of events, by computation alone.
-use Rattle.std.proofs.Common.{◌≡◌, ℕ, ◌+◌, Bool, true, false, List, [], ◌∷◌, length, Option, Some, None, refl}
+use Rattle.std.proofs.Common.{◌≡◌, ℕ, ◌+◌, Bool, true, false, List, [], ◌∷◌, length, Option, Some, None, refl, sym}
 use Rattle.gum_messages.specs.declared.member.Member.{Member}
 use Rattle.gum_messages.specs.declared.view.View.{View}
 use Rattle.update_records.specs.declared.update.Update.{Update}
 use Rattle.view_reconcile.specs.Joining as joining
-use Rattle.cluster_rules.specs.Machines.{Machine}
+use Rattle.update_records.specs.Entry.{Entry}
+use Rattle.cluster_rules.specs.Machines.{IsMachine, Machine, replay}
 use Rattle.cluster_rules.specs.Nodes.{NodeState, done_of}
 use Rattle.cluster_rules.specs.Updates.{InDoubt, Written}
 use Rattle.cluster_rules.specs.Worlds.{Declare, Deliver, Die, DieInDeliver, DieInInstall, Event, Install, Recovered, Start, Submit, World, opening, run}
@@ -17,7 +18,7 @@ abbrev view : ℕ → List (ℕ × ℕ) → View
 view number members = record { number = number; members = listed members }
 
 -- A registry that counts its records, over its capacity.
-abbrev tally : Machine
+abbrev pub tally : Machine
 tally = record {
   Registry = ℕ × ℕ;
   Outcome = ℕ;
@@ -26,6 +27,18 @@ tally = record {
   apply = λ e r. ((r.0, r.1 + 1), r.1);
   encode = λ r. r.1 ∷ [];
   decode = λ cap bytes. elim bytes [ [] ↦ None | b ∷ bs ↦ Some (cap, b) ];
+}
+
+tally_cap : (order : List Entry) (r : ℕ × ℕ) → (replay tally order r).0 ≡ r.0
+tally_cap [] r = refl
+tally_cap (e ∷ es) r = tally_cap es (r.0, r.1 + 1)
+
+-- It is such a machine as the theorem asks for.
+pub tally_is_machine : IsMachine tally
+tally_is_machine = record {
+  begins = λ cap. refl;
+  keeps = λ e r. refl;
+  reads_back = λ cap order. let same : (replay tally order (cap, 0)).0 ≡ cap = tally_cap order (cap, 0) in λ i. Some (sym same i, (replay tally order (cap, 0)).1);
 }
 
 abbrev begin : World tally
@@ -37,7 +50,7 @@ shown None = None
 shown (Some x) = Some (joining.is_open x.join, (x.join.view.number, done_of x))
 
 module _ (u : Update) where
-  -- ONE MEMBER: it opens, submits, is granted its own lock, and acknowledges at once.
+  -- One member: it opens, submits, is granted its own lock, and acknowledges at once.
   abbrev one : List Event
   one = Start 1 ∷ Declare (view 1 ((1, 1) ∷ [])) ∷ Install 1 1 (Recovered false) ∷ Submit 1 u ∷ Deliver 1 Written ∷ Deliver 2 Written ∷ Deliver 3 Written ∷ []
 
@@ -50,7 +63,7 @@ module _ (u : Update) where
   pub one_logs : length (run one begin).log.order ≡ 1
   one_logs = refl
 
-  -- TWO MEMBERS: node 2 pulls the state, the view opens, and an update of node 2 spreads and finishes.
+  -- Two members: node 2 pulls the state, the view opens, and an update of node 2 spreads and finishes.
   abbrev both : List Event
   both =
       Start 1 ∷ Start 2 ∷ Declare (view 1 ((1, 1) ∷ (2, 1) ∷ [])) ∷ Install 2 1 (Recovered false) ∷ Install 1 1 (Recovered false)
@@ -79,6 +92,16 @@ module _ (u : Update) where
   pub both_apply : shown ((run spread (run granted joined)).nodes 1) ∷ shown ((run spread (run granted joined)).nodes 2) ∷ [] ≡ Some (true, (1, 1)) ∷ Some (true, (1, 1)) ∷ []
   both_apply = refl
 
+  -- An Ask that comes again while its sender has the lock is granted again and not logged again.
+  abbrev asked_twice : List Event
+  asked_twice = Submit 2 u ∷ Deliver 6 Written ∷ Deliver 6 Written ∷ []
+
+  pub logged_once : length (run asked_twice joined).log.order ≡ 1
+  logged_once = refl
+
+  pub granted_twice : length (run asked_twice joined).pool ≡ 8
+  granted_twice = refl
+
   -- A message that comes twice changes nothing: the update is logged once and acknowledged once.
   abbrev again : List Event
   again = Deliver 6 Written ∷ Deliver 7 Written ∷ Deliver 8 Written ∷ Deliver 9 Written ∷ []
@@ -89,7 +112,7 @@ module _ (u : Update) where
   pub acked_once : (run again (run spread (run granted joined))).acks ≡ (1, 1) ∷ []
   acked_once = refl
 
-  -- A SETTLED HEAD: the Granted is lost, and the next view's offer shows node 2 its own record.
+  -- A settled head: the Granted is lost, and the next view's offer shows node 2 its own record.
   abbrev settled : List Event
   settled = Submit 2 u ∷ Deliver 6 Written ∷ Declare (view 2 ((1, 1) ∷ (2, 1) ∷ [])) ∷ Install 1 2 (Recovered false) ∷ Install 2 2 (Recovered false) ∷ Deliver 8 Written ∷ []
 
@@ -113,7 +136,7 @@ module _ (u : Update) where
   pub alive_logs : length (run lives (run settled joined)).log.order ≡ 1
   alive_logs = refl
 
-  -- A RECORD IN DOUBT: the append failed and the node halted; a recovery takes the record or drops it.
+  -- A record in doubt: the append failed and the node halted; a recovery takes the record or drops it.
   abbrev doubtful : List Event
   doubtful = Start 1 ∷ Declare (view 1 ((1, 1) ∷ [])) ∷ Install 1 1 (Recovered false) ∷ Submit 1 u ∷ Deliver 1 InDoubt ∷ []
 
@@ -129,7 +152,7 @@ module _ (u : Update) where
   pub dropped : shown ((run (reopens false) (run doubtful begin)).nodes 1) ≡ Some (true, (2, 0))
   dropped = refl
 
-  -- A DEATH INSIDE AN APPEND leaves the record in doubt as well, and one inside an opening may have raised the claim.
+  -- A death inside an append leaves the record in doubt as well, and one inside an opening may have raised the claim.
   abbrev torn : List Event
   torn = Start 1 ∷ Declare (view 1 ((1, 1) ∷ [])) ∷ Install 1 1 (Recovered false) ∷ Submit 1 u ∷ DieInDeliver 1 Written ∷ []
 

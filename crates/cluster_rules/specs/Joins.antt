@@ -42,7 +42,7 @@ with_replica x registry done = record x { replica = Some (record { registry = re
 abbrev pub known_done : {M : Machine} → NodeState M → Option ℕ
 known_done x = elim x.replica [ None ↦ None | Some r ↦ Some r.done ]
 
--- OFFER
+-- An Offer of the locker, at another member.
 abbrev pub says_ready : {M : Machine} → NodeState M → Out M
 says_ready x = tells x (locker_at x) Ready
 
@@ -60,7 +60,7 @@ on_offer x from o =
     then (if joining.is_ready x.join then says_ready x else follows x o (joining.offered x.join o.count (place_of o.last) (known_done x)))
     else nothing x
 
--- THE STATE IN PIECES
+-- The locker sends its state in pieces.
 abbrev pub piece : List ℕ → ℕ → ℕ → Body
 piece bytes offset count = Piece (length bytes) offset (take count (drop offset bytes))
 
@@ -96,28 +96,28 @@ gathers x bytes r = elim (r.1) [
 abbrev pub on_piece : {M : Machine} → NodeState M → ℕ → ℕ → List ℕ → Out M
 on_piece x total offset bytes = gathers x bytes (joining.pulled x.join total offset (length bytes))
 
--- READY
+-- A Ready at the locker.
 abbrev pub opens_view : {M : Machine} → NodeState M → Out M
 opens_view x = after (Opened (number_of x) ∷ to_each x OpenView (spread_of (members_of x))) (begins x (updating.opened x.core x.settled))
 
-abbrev pub counts : {M : Machine} → NodeState M → ReconcileState × Step → Out M
-counts x r = elim (r.1) [
+abbrev pub marks_ready : {M : Machine} → NodeState M → ReconcileState × Step → Out M
+marks_ready x r = elim (r.1) [
   | step.OpenAgain to ↦ tells x to OpenView
   | step.Open ↦ opens_view (record x { join = r.0 })
   | _ ↦ nothing (record x { join = r.0 })
 ]
 
 abbrev pub on_ready : {M : Machine} → NodeState M → ℕ → Out M
-on_ready x from = counts x (joining.readied x.join from)
+on_ready x from = marks_ready x (joining.readied x.join from)
 
--- OPEN
+-- An OpenView of the locker.
 abbrev pub on_open_view : {M : Machine} → NodeState M → ℕ → Out M
 on_open_view x from =
     if nat_eq from (locker_at x) && (joining.opened x.join).1
     then opens (record x { join = (joining.opened x.join).0 })
     else nothing x
 
--- THE LOCKER'S OWN OFFER, of the log that it recovered. A registry of another capacity counts as no state.
+-- The locker hears its own offer, of the log that it recovered. A registry of another capacity counts as no state.
 abbrev pub done_within : {M : Machine} → NodeState M → ℕ → Option ℕ
 done_within {M} x cap = elim x.replica [ None ↦ None | Some r ↦ if nat_eq (M.cap r.registry) cap then Some r.done else None ]
 
@@ -131,8 +131,8 @@ goes_on x o s = elim s [
   | _ ↦ nothing x
 ]
 
-abbrev pub hears : {M : Machine} → NodeState M → Offering → M.Registry → ReconcileState × Step → Out M
-hears x o registry r = elim (r.1) [
+abbrev pub hears_itself : {M : Machine} → NodeState M → Offering → M.Registry → ReconcileState × Step → Out M
+hears_itself x o registry r = elim (r.1) [
   | step.ApplyLast ↦ elim o.last [
     | None ↦ nothing x
     | Some e ↦ goes_on (joined (applied e x) o.count o.last (joining.taken r.0 true).0) o (joining.taken r.0 true).1
@@ -143,9 +143,9 @@ hears x o registry r = elim (r.1) [
 
 abbrev pub recovers : {M : Machine} → NodeState M → ℕ → List Entry → Out M
 recovers {M} x cap order =
-    hears x (record { count = length order; cap = cap; last = last_of order }) (registry_at M cap order (length order)) (joining.offered x.join (length order) (place_of (last_of order)) (done_within x cap))
+    hears_itself x (record { count = length order; cap = cap; last = last_of order }) (registry_at M cap order (length order)) (joining.offered x.join (length order) (place_of (last_of order)) (done_within x cap))
 
--- A TICK
+-- A tick: who isn't ready is offered the log again, a pulling member asks again, a ready one says so again.
 abbrev pub offer_each : {M : Machine} → NodeState M → Body → List Member → List Effect
 offer_each x body [] = []
 offer_each x body (m ∷ ms) = if joining.waits_for x.join m.node then Send (packet x m.node body) ∷ offer_each x body ms else offer_each x body ms

@@ -76,7 +76,7 @@ place_of last = elim last [ None ↦ None | Some e ↦ Some e.place ]
 abbrev pub is_head : {M : Machine} → Entry → NodeState M → Bool
 is_head e x = nat_lt 0 (length x.core.queue) && (nat_eq e.id.node x.join.node && (nat_eq e.id.inc x.join.inc && nat_eq e.id.req (x.core.passed + 1)))
 
--- WHAT A NODE DOES
+-- What a node does.
 pub data Effect : Type 0 where
   Send : (packet : Packet) → Effect
   -- The head's update is acknowledged: in this view, with the place of its record.

@@ -7,13 +7,14 @@ use Rattle.cluster_rules.specs.Machines.{Machine, registry_at}
 use Rattle.cluster_rules.specs.Nodes.{NodeState, Replica, number_of}
 use Rattle.cluster_rules.specs.Worlds.{World}
 
--- Every registry is a prefix's of the one order; records stand at their places, and none is logged twice. The doubtful
--- record is the next one, and no record of the order.
+-- Every registry is a prefix's of the one order; records stand at their places, none is logged twice, and each is the
+-- update of the request that its id names. The doubtful record is the next one, and no record of the order.
 pub record Safe {M : Machine} (w : World M) : Type 0 where
   pub within : (n : ℕ) (x : NodeState M) (r : Replica M) → w.nodes n ≡ Some x → x.replica ≡ Some r → r.done ≤ length w.log.order
   pub registry : (n : ℕ) (x : NodeState M) (r : Replica M) → w.nodes n ≡ Some x → x.replica ≡ Some r → r.registry ≡ registry_at M w.log.cap w.log.order r.done
   pub places : (k : ℕ) (e : Entry) → at_place w.log.order k ≡ Some e → e.place ≡ k
   pub ids : (j k : ℕ) (d e : Entry) → at_place w.log.order j ≡ Some d → at_place w.log.order k ≡ Some e → d.id ≡ e.id → j ≡ k
+  pub updates : (k : ℕ) (e : Entry) → at_place w.log.order k ≡ Some e → at_place (w.requests e.id.node e.id.inc) e.id.req ≡ Some e.update
   pub next : (e : Entry) → w.log.doubtful ≡ Some e → e.place ≡ length w.log.order + 1
   pub apart : (d e : Entry) (k : ℕ) → w.log.doubtful ≡ Some d → at_place w.log.order k ≡ Some e → d.id ≡ e.id → ⊥
 

@@ -27,8 +27,8 @@ applied e x = record x {
 }
 
 -- The head has left the queue.
-abbrev pub left : {M : Machine} → NodeState M → CoreState → NodeState M
-left x core = record x { core = core; spreads = None; settled = None; outcome = None }
+abbrev pub without_head : {M : Machine} → NodeState M → CoreState → NodeState M
+without_head x core = record x { core = core; spreads = None; settled = None; outcome = None }
 
 -- Submit: the update is queued, and asked for where it is the head.
 abbrev pub may_submit : {M : Machine} → NodeState M → Bool
@@ -47,15 +47,14 @@ submit x update = if may_submit x then submits x (updating.submitted x.core upda
 abbrev pub begins : {M : Machine} → NodeState M → CoreState × Decision → Out M
 begins x r = elim (r.1) [
   | decision.Ask req ↦ becomes (record x { core = r.0 }) (asks (record x { core = r.0 }) (Some req))
-  | decision.Finish req place next ↦ becomes (left x r.0) (Acked (number_of x) place ∷ asks (left x r.0) next)
+  | decision.Finish req place next ↦ becomes (without_head x r.0) (Acked (number_of x) place ∷ asks (without_head x r.0) next)
   | _ ↦ nothing (record x { core = r.0 })
 ]
 
 abbrev pub opens : {M : Machine} → NodeState M → Out M
 opens x = after (Opened (number_of x) ∷ []) (begins x (updating.opened x.core x.settled))
 
--- ASK
--- What comes of the log's calls for an Ask, at a log that no later view has claimed.
+-- An Ask at the locker: what comes of the log's calls for an Ask, at a log that no later view has claimed.
 pub data Answer : Type 0 where
   Written : Answer
   -- The append failed: the record may be in the log or not.
@@ -108,11 +107,11 @@ answers x update held answer d = elim d [
 abbrev pub on_ask : {M : Machine} → NodeState M → ℕ → ℕ → Update → ℕ → Answer → Logged M
 on_ask x from req update held answer = answers x update held answer (updating.asked x.core from req (done_of x))
 
--- GRANTED, APPLIED: the head's record spreads, and behind the last member the head is finished.
+-- A Granted, and each Applied: the head's record spreads, and behind the last member the head is finished.
 abbrev pub proceeds : {M : Machine} → NodeState M → Entry → CoreState × Decision → Out M
 proceeds x e r = elim (r.1) [
   | decision.Spread to place ↦ tells (record x { core = r.0; spreads = Some e }) to (Apply e)
-  | decision.Finish req place next ↦ becomes (left x r.0) (Acked (number_of x) place ∷ Send (packet x (locker_at x) (Release req)) ∷ asks (left x r.0) next)
+  | decision.Finish req place next ↦ becomes (without_head x r.0) (Acked (number_of x) place ∷ Send (packet x (locker_at x) (Release req)) ∷ asks (without_head x r.0) next)
   | decision.ReleaseAgain req ↦ tells x (locker_at x) (Release req)
   | _ ↦ nothing x
 ]
@@ -126,7 +125,7 @@ on_applied x from place = elim x.spreads [
   | Some e ↦ proceeds x e (updating.applied x.core from place)
 ]
 
--- APPLY
+-- An Apply: a member that is ready applies the record behind its last one.
 abbrev pub applies : {M : Machine} → NodeState M → ℕ → Entry → Decision → Out M
 applies x from e d = elim d [
   | decision.Take ↦ tells (applied e x) from (Applied e.place)
@@ -137,11 +136,11 @@ applies x from e d = elim d [
 abbrev pub on_apply : {M : Machine} → NodeState M → ℕ → Entry → Out M
 on_apply x from e = if joining.is_ready x.join && not (joining.locks x.join) then applies x from e (updating.applying (done_of x) e.place) else nothing x
 
--- RELEASE
+-- A Release by the lock's holder: the lock is free.
 abbrev pub on_release : {M : Machine} → NodeState M → ℕ → ℕ → Out M
 on_release x from req = nothing (record x { core = (updating.released x.core from req).0 })
 
--- A TICK
+-- A tick: the head's message is sent again, and the grant of the lock.
 abbrev pub tick_head : {M : Machine} → NodeState M → Decision → List Effect
 tick_head x d = elim d [
   | decision.Ask req ↦ asks x (Some req)

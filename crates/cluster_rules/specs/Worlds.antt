@@ -12,7 +12,7 @@ use Rattle.view_reconcile.specs.Chains.{fault_of, view_in}
 use Rattle.cluster_rules.specs.Machines.{Machine}
 use Rattle.cluster_rules.specs.Packets.{Packet}
 use Rattle.cluster_rules.specs.Nodes.{Acked, Effect, NodeState, Out, Send, fresh, halts, nothing, number_of}
-use Rattle.cluster_rules.specs.Updates.{Answer, Logged, submit}
+use Rattle.cluster_rules.specs.Updates.{Answer, Logged, may_submit, submit}
 use Rattle.cluster_rules.specs.Joins.{entered, recovers, takes_view}
 use Rattle.cluster_rules.specs.Receiving.{checkpoint, clock, receive, tick}
 
@@ -39,6 +39,8 @@ pub record World (M : Machine) : Type 0 where
   pub pool : List Packet
   -- All acknowledgements: view and place.
   pub acks : List (ℕ × ℕ)
+  -- History, which no node reads: the updates that a node took in each of its incarnations; request q is the q-th.
+  pub requests : ℕ → ℕ → List Update
   pub log : Log
 
 abbrev pub opening : (M : Machine) → ℕ → World M
@@ -48,13 +50,13 @@ opening M cap = record {
   chain = [];
   pool = [];
   acks = [];
+  requests = λ n i. [];
   log = record { cap = cap; order = []; doubtful = None; held = 0; view_at = λ k. 0; doubtful_view = 0; count = λ v. None };
 }
 
 abbrev pub put : {A : Type 0} → (ℕ → A) → ℕ → A → ℕ → A
 put f n v m = if nat_eq m n then v else f m
 
--- EVENTS
 -- What comes of opening the log for a view, where no later view has claimed it.
 pub data Opening : Type 0 where
   -- The log is recovered; the doubtful record, where there is one, was found in it or not.
@@ -98,7 +100,7 @@ stopped n w = record w { nodes = put w.nodes n None }
 abbrev pub with_log : {M : Machine} → Log → World M → World M
 with_log log w = record w { log = log }
 
--- THE LOG
+-- What becomes of the log.
 abbrev pub append : Option Entry → ℕ → Log → Log
 append r view l = elim r [ None ↦ l | Some e ↦ record l { order = l.order ++ e ∷ []; view_at = put l.view_at (length l.order + 1) view } ]
 
@@ -121,7 +123,6 @@ claimed view l = record l { held = view; count = put l.count view (Some (length 
 abbrev pub raise : Bool → ℕ → Log → Log
 raise raised view l = if raised then record l { held = view } else l
 
--- THE STEPS
 abbrev pub logs : {M : Machine} → ℕ → Logged M → World M → World M
 logs view d w = with_log (leave d.doubtful view (append d.appended view w.log)) w
 
@@ -161,6 +162,10 @@ opens_log w x v = takes_view x v && (is_locker v.members x.join.node && not (nat
 abbrev pub die_in_install : {M : Machine} → World M → ℕ → NodeState M → View → Bool → World M
 die_in_install w n x v raised = stopped n (with_log (raise (opens_log w x v && raised) v.number w.log) w)
 
+-- An update that a node takes is its next request.
+abbrev pub noted : {M : Machine} → ℕ → NodeState M → Update → World M → World M
+noted n x update w = if may_submit x then record w { requests = put w.requests n (put (w.requests n) x.join.inc (w.requests n x.join.inc ++ update ∷ [])) } else w
+
 abbrev pub was_started : (ℕ → ℕ) → Member → Bool
 was_started starts m = nat_lt 0 m.inc && nat_le m.inc (starts m.node)
 
@@ -182,7 +187,7 @@ happens w (Start n) = start w n
 happens w (Declare v) = if may_declare w v then record w { chain = w.chain ++ v ∷ [] } else w
 happens w (Install n v opening) = at_node w n (λ x. elim (view_in w.chain v) [ None ↦ w | Some u ↦ install w n x u opening ])
 happens w (Deliver k answer) = elim (at_place w.pool k) [ None ↦ w | Some p ↦ deliver w p answer ]
-happens w (Submit n update) = at_node w n (λ x. absorb n (submit x update) w)
+happens w (Submit n update) = at_node w n (λ x. absorb n (submit x update) (noted n x update w))
 happens w (Tick n) = at_node w n (λ x. absorb n (tick x) w)
 happens w (Clock n stamp) = at_node w n (λ x. absorb n (clock x stamp) w)
 happens w (Checkpoint n good) = at_node w n (λ x. absorb n (checkpoint x w.log.held good) w)
