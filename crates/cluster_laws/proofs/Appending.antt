@@ -1,5 +1,5 @@
 -- The open locker logs a record.
-use Rattle.std.proofs.Common.{◌≡◌, ◌≢◌, ◌⊎◌, inl, inr, ⊎_elim, ℕ, ◌+◌, ◌<◌, ◌≤◌, Bool, true, false, List, [], ◌∷◌, ◌++◌, length, Option, Some, None, nat_eq, slice_get, refl, sym, ap, ◌∙◌, subst, arith}
+use Rattle.std.proofs.Common.{◌≡◌, ◌≢◌, ◌⊎◌, inl, inr, ⊎_elim, ℕ, ◌+◌, ◌<◌, ◌≤◌, Bool, true, false, List, [], ◌∷◌, ◌++◌, length, Option, Some, None, nat_eq, slice_get, refl, sym, ap, ◌∙◌, subst, append-nil, arith}
 use Rattle.std.proofs.lemmas.Bool.{cases_lt}
 use Rattle.gum_messages.specs.declared.member.Member.{Member}
 use Rattle.gum_messages.specs.declared.view.View.{View}
@@ -18,12 +18,15 @@ use Rattle.cluster_rules.specs.Nodes.{NodeState, Replica, done_of, packet, tells
 use Rattle.cluster_rules.specs.Updates.{has_logged}
 use Rattle.cluster_rules.specs.Worlds.{World, absorb, acked, with_log}
 use Rattle.cluster_laws.proofs.Inv.{AckOk, Asked, Invariant, LogOk, LoggedIn, MemberOk, NodeOk, NotBefore, Owner, OwnerOk, Pooled, Reached, Requested, Stands}
-use Rattle.cluster_laws.proofs.Stable.{AskedOnly, Ext, Grown, grown_refl, pooled}
+use Rattle.cluster_laws.proofs.Stable.{AskedOnly, Ext, Grown, grown_refl, past, pooled}
 use Rattle.cluster_laws.proofs.Moves.{at_self, none_acked, one_told, put_cases, self_node, slice_get_append, slice_get_front}
 use Rattle.cluster_laws.proofs.Applying.{done_at, next_outcome, done_next, eq_true, locker_is, locker_not, next_last, next_registry, state_next}
 use Rattle.std.proofs.lemmas.List.{length-set}
 use Rattle.gum_core.proofs.Logging.{greatest_kept, greatest_logged}
 use Rattle.cluster_laws.proofs.Growth.{Grows, NewOk, ack_grows, fresh_or_old, length_snoc, log_grows, longer_plus, new_view, node_grows, plus}
+
+pub no_more : {A : Type 0} (l : List A) (k : ℕ) (a : A) → slice_get (l ++ []) k ≡ Some a → slice_get l k ≡ Some a
+no_more l k a e = ap (λ (t : List _). slice_get t k) (sym (append-nil l)) ∙ e
 
 pub same_or_not : (a b : ℕ) → (a ≡ b) ⊎ (a ≢ b)
 same_or_not a b = elim (nat_eq a b) as (λ (c : Bool). nat_eq a b ≡ c → (a ≡ b) ⊎ (a ≢ b)) [
@@ -63,7 +66,7 @@ module _ {M : Machine} where
     pub new : NotBefore w.log r.id.node r.id.inc r.id.req count
 
   pub logged_grown : (x : NodeState M) (s : Replica M) (r : Entry) → x.replica ≡ Some s → Grown x (has_logged x r)
-  logged_grown x s r st = record { inc = refl; done = let d : done_of (has_logged x r) ≡ s.done + 1 = done_next x r s st in omega (arith, done_at x s st, d); passed = omega arith; asks = omega arith; view = omega arith; waits = λ e q z. z }
+  logged_grown x s r st = record { inc = refl; done = let d : done_of (has_logged x r) ≡ s.done + 1 = done_next x r s st in omega (arith, done_at x s st, d); passed = omega arith; asks = omega arith; view = omega arith; settled = λ k e. inl e; waits = λ e q z. z }
 
   pub append_ext : (w : World M) (n : ℕ) (x : NodeState M) (s : Replica M) (r : Entry) → w.nodes n ≡ Some x → x.replica ≡ Some s → Ext w (appended w n x r)
   append_ext w n x s r at st = record {
@@ -77,7 +80,7 @@ module _ {M : Machine} where
         (put_cases w.nodes n (Some (has_logged x r)) m z e);
   }
 
-  pub append_grows : (w : World M) (n : ℕ) (x : NodeState M) (s : Replica M) (r : Entry) → Invariant w → Fresh w n x s r → Grows w r x.join.view (appended w n x r).nodes (appended w n x r).pool (appended w n x r).acks
+  pub append_grows : (w : World M) (n : ℕ) (x : NodeState M) (s : Replica M) (r : Entry) → Invariant w → Fresh w n x s r → Grows w r x.join.view (appended w n x r).nodes (appended w n x r).pool (appended w n x r).acks (appended w n x r).points
   append_grows w n x s r j f =
       let at : w.nodes n ≡ Some x = f.owner.runs in
       let h : NodeOk w n x = j.nodes n x at in
@@ -128,13 +131,13 @@ module _ {M : Machine} where
       let w' : World M = appended w n x r in
       let y : NodeState M = has_logged x r in
       let h : NodeOk w n x = j.nodes n x at in
-      let g : NodeOk w' n x = node_grows w r x.join.view w'.nodes w'.pool w'.acks n x j.log gs at h in
+      let g : NodeOk w' n x = node_grows w r x.join.view w'.nodes w'.pool w'.acks w'.points n x j.log gs at h in
       let k : OwnerOk w n x = j.owner n x f.owner in
       let d : done_of x ≡ s.done = done_at x s f.state in
       let d' : done_of y ≡ s.done + 1 = done_next x r s f.state in
       let len : length w'.log.order ≡ length w.log.order + 1 = length_snoc w.log.order r in
       let here : at_place w'.log.order (s.done + 1) ≡ Some r = ap (at_place w'.log.order) (sym f.place ∙ gs.place) ∙ place_new w.log.order r in
-      let lo' : LogOk w' = log_grows w r x.join.view w'.nodes w'.pool w'.acks j.log gs (append_new w n x s r j f) in
+      let lo' : LogOk w' = log_grows w r x.join.view w'.nodes w'.pool w'.acks w'.points j.log gs (append_new w n x s r j f) in
       let here2 : at_place w'.log.order (done_of y) ≡ Some r = ap (at_place w'.log.order) d' ∙ here in
       let rd : joining.is_ready x.join ≡ true = f.owner.ready in
       record {
@@ -239,10 +242,10 @@ module _ {M : Machine} where
       let ok : NodeOk w' n y = logged_ok w n x s r j f in
       record {
         chain = record { chain = j.chain.chain; started = j.chain.started; locker = j.chain.locker };
-        log = log_grows w r x.join.view w'.nodes w'.pool w'.acks j.log gs (append_new w n x s r j f);
+        log = log_grows w r x.join.view w'.nodes w'.pool w'.acks w'.points j.log gs (append_new w n x s r j f);
         nodes = λ m z t. ⊎_elim
             (λ (c : (m ≡ n) × (Some y ≡ Some z)). at_self (λ (a : ℕ) (b : NodeState M). NodeOk w' a b) m n y z c.0 c.1 ok)
-            (λ (c : (m ≢ n) × (w.nodes m ≡ Some z)). node_grows w r x.join.view w'.nodes w'.pool w'.acks m z j.log gs c.1 (j.nodes m z c.1))
+            (λ (c : (m ≢ n) × (w.nodes m ≡ Some z)). node_grows w r x.join.view w'.nodes w'.pool w'.acks w'.points m z j.log gs c.1 (j.nodes m z c.1))
             (put_cases w.nodes n (Some y) m z t);
         owner = λ m z o. ⊎_elim
             (λ (c : (m ≡ n) × (Some y ≡ Some z)). at_self (λ (a : ℕ) (b : NodeState M). OwnerOk w' a b) m n y z c.0 c.1 (owner_after w n x s r j f))
@@ -264,8 +267,10 @@ module _ {M : Machine} where
               ok = (record { at = here; view = new_view w.log r x.join.view.number r.place gs.place }, refl, f.inc, subst (λ (t : ℕ). Reached w' t (inc_of x.join.view.members t) r.place) (sym me) rc);
             }) c.0 p c.1)
             (slice_get_append w.pool (packet y r.id.node (Granted r) ∷ []) i p t);
+        points = λ a p t. past w w' p.node p.inc p.place e (j.points a p (no_more w.points a p t));
+        steady = λ a b p q ta tb. j.steady a b p q (no_more w.points a p ta) (no_more w.points b q tb);
         acks = λ a v k t. ⊎_elim
-            (λ (c : slice_get w.acks a ≡ Some (v, k)). ack_grows w r x.join.view w'.nodes w'.pool w'.acks v k gs (j.acks a v k c))
+            (λ (c : slice_get w.acks a ≡ Some (v, k)). ack_grows w r x.join.view w'.nodes w'.pool w'.acks w'.points v k gs (j.acks a v k c))
             (λ (c : (i : ℕ) × (slice_get (acked []) i ≡ Some (v, k))). none_acked (λ (a b : ℕ). AckOk w' a b) c.0 v k c.1)
             (slice_get_append w.acks [] a (v, k) t);
       }

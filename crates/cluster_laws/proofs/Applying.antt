@@ -1,5 +1,5 @@
 -- Records are applied: folds, and the rule for an Apply.
-use Rattle.std.proofs.Common.{◌≡◌, ◌≢◌, ⊎_elim, ℕ, zero, suc, ◌+◌, ◌-◌, ◌<◌, ◌≤◌, Bool, true, false, not, ◌&&◌, List, [], ◌∷◌, ◌++◌, length, take, Option, Some, nat_eq, nat_lt, if◌then◌else◌, slice_get, refl, sym, ap, ◌∙◌, subst, add-one, arith}
+use Rattle.std.proofs.Common.{◌≡◌, ◌≢◌, inl, ⊎_elim, ℕ, zero, suc, ◌+◌, ◌-◌, ◌<◌, ◌≤◌, Bool, true, false, not, ◌&&◌, List, [], ◌∷◌, ◌++◌, length, take, Option, Some, nat_eq, nat_lt, if◌then◌else◌, slice_get, refl, sym, ap, ◌∙◌, subst, add-one, arith}
 use Rattle.std.proofs.lemmas.Bool.{cases_lt}
 use Rattle.gum_messages.specs.declared.member.Member.{Member}
 use Rattle.gum_messages.specs.Members.{inc_of, is_locker, locker_of}
@@ -18,7 +18,7 @@ use Rattle.cluster_rules.specs.Worlds.{World, absorb}
 use Rattle.gum_core.proofs.Cases.{applying_cases}
 use Rattle.cluster_laws.proofs.Inv.{AckOk, Has, Invariant, LoggedIn, MemberOk, NodeOk, Pooled, Stands, at_head}
 use Rattle.cluster_laws.proofs.Stable.{Grown}
-use Rattle.cluster_laws.proofs.Moves.{move_keeps, moved, node_in, none_acked, one_told, reached_self, stay_keeps, stay_sends, told}
+use Rattle.cluster_laws.proofs.Moves.{quiet_points, move_keeps, moved, node_in, none_acked, one_told, reached_self, stay_keeps, stay_sends, told}
 
 -- Guards
 pub and_true : (a b : Bool) → (a && b) ≡ true → (a ≡ true) × (b ≡ true)
@@ -194,7 +194,7 @@ module _ {M : Machine} where
       }
 
   pub apply_grown : (x : NodeState M) (r : Entry) (s : Replica M) → x.replica ≡ Some s → Grown x (applied r x)
-  apply_grown x r s st = record { inc = refl; done = omega (arith, done_at x s st, done_next x r s st); passed = omega arith; asks = omega arith; view = omega arith; waits = λ e q z. z }
+  apply_grown x r s st = record { inc = refl; done = omega (arith, done_at x s st, done_next x r s st); passed = omega arith; asks = omega arith; view = omega arith; settled = λ k e. inl e; waits = λ e q z. z }
 
   pub on_apply_keeps : (w : World M) (n : ℕ) (x : NodeState M) (from : ℕ) (r : Entry) → Invariant w → w.nodes n ≡ Some x → LoggedIn w.log r x.join.view.number → Invariant (absorb n (on_apply x from r) w)
   on_apply_keeps w n x from r j at lg =
@@ -223,6 +223,7 @@ module _ {M : Machine} where
         node = node_in w n x y es j at gr (apply_node w n x r st.0 j at st.1 rd nl lg pl);
         messages = one_told (λ (q : Packet). Pooled (moved w n y es) q) (packet y from (Applied r.place)) (tells_ y refl refl (omega (arith, pl, dn)));
         acks = none_acked (λ (a b : ℕ). AckOk (moved w n y es) a b);
+        points = quiet_points w n y es refl;
         owner = λ o. absurd (locker_not (joining.locks x.join) o.locker nl);
         member = λ a z ne o k op i. let old : MemberOk w.log z.core.lock n x = k.members op n x at i in
             record { near = omega (arith, old.near, d, dn); free = λ f. omega (arith, old.free f, d, dn); heads = old.heads };

@@ -1,7 +1,9 @@
 -- To finish a request, and what rests on it.
-use Rattle.std.proofs.Common.{◌≡◌, ◌≢◌, ℕ, ◌+◌, ◌<◌, ◌≤◌, Bool, true, false, List, [], ◌∷◌, length, drop, Option, Some, None, nat_lt, cond, if◌then◌else◌, slice_get, refl, sym, ap, ◌∙◌, subst, add-one, arith}
+use Rattle.std.proofs.Common.{◌≡◌, ◌≢◌, ⊎_elim, ℕ, ◌+◌, ◌<◌, ◌≤◌, Bool, true, false, List, [], ◌∷◌, length, drop, Option, Some, None, nat_lt, cond, if◌then◌else◌, slice_get, refl, sym, ap, ◌∙◌, subst, add-one, arith}
+use Rattle.std.proofs.lemmas.Bool.{cases_lt}
 use Rattle.gum_messages.specs.Members.{inc_of}
-use Rattle.gum_messages.proofs.Placing.{place_within}
+use Rattle.gum_messages.specs.Places.{at_place}
+use Rattle.gum_messages.proofs.Placing.{place_some, place_within}
 use Rattle.update_records.specs.Entry.{Entry}
 use Rattle.update_records.specs.declared.update.Update.{Update}
 use Rattle.gum_core.specs.Updating.{CoreState, greatest_of}
@@ -10,12 +12,12 @@ use Rattle.view_reconcile.specs.Joining.{ReconcileState}
 use Rattle.view_reconcile.specs.Joining as joining
 use Rattle.cluster_rules.specs.Machines.{Machine}
 use Rattle.cluster_rules.specs.Packets.{Packet, Ask, Release}
-use Rattle.cluster_rules.specs.Nodes.{Acked, Effect, NodeState, Send, asks, locker_at, packet}
+use Rattle.cluster_rules.specs.Nodes.{Acked, Effect, NodeState, Send, asks, done_of, locker_at, packet}
 use Rattle.cluster_rules.specs.Updates.{proceeds}
 use Rattle.cluster_rules.specs.Worlds.{World, absorb, acked, sent}
-use Rattle.cluster_laws.proofs.Inv.{AckOk, AllReached, Has, Invariant, NodeOk, Pooled, Requested, Stands, at_head, greatest_asked}
+use Rattle.cluster_laws.proofs.Inv.{AckOk, AllReached, Has, Invariant, NodeOk, Past, Pooled, Requested, Stands, at_head, greatest_asked, waits}
 use Rattle.cluster_laws.proofs.Stable.{Ext, Grown, all_reached}
-use Rattle.cluster_laws.proofs.Moves.{ext_absorb, moved, one_acked, self_node, slice_get_back, told}
+use Rattle.cluster_laws.proofs.Moves.{PointsOk, ext_absorb, moved, one_acked, self_node, slice_get_back, told}
 use Rattle.cluster_laws.proofs.Heads.{HeadOk, ask_told, asks_acks, asks_least, asks_told, cons_told, full_asks, head_keeps, headed, not_asked, not_asked_doubt}
 
 pub drop_one : {A : Type 0} (l : List A) (k : ℕ) (a : A) → slice_get (drop 1 l) k ≡ Some a → slice_get l (k + 1) ≡ Some a
@@ -61,7 +63,61 @@ module _ {M : Machine} where
   popped_asks x = asks_least (popped x)
 
   pub popped_grown : (x : NodeState M) → x.core.queue ≢ [] → Grown x (popped x)
-  popped_grown x f = record { inc = refl; done = omega arith; passed = omega arith; asks = omega (arith, full_asks x f, popped_asks x); view = omega arith; waits = λ e q z. absurd (omega arith) }
+  popped_grown x f = record { inc = refl; done = omega arith; passed = omega arith; asks = omega (arith, full_asks x f, popped_asks x); view = omega arith; settled = λ k e. absurd (cc); waits = λ e q z. absurd (omega arith) }
+
+  done_here : (w : World M) (n : ℕ) (x : NodeState M) (r : Entry) → Invariant w → w.nodes n ≡ Some x → Done w n x r → r.place ≤ done_of x
+  done_here w n x r j at d =
+      let h : NodeOk w n x = j.nodes n x at in
+      (d.members.each n x.join.inc (h.view (h.ready_view d.ready)).1 h.positive).done x at refl
+
+  -- a ready node whose waiting head has its record in the order hasn't gone past it
+  pub not_past : (w : World M) (n : ℕ) (x : NodeState M) (r : Entry) → Invariant w → w.nodes n ≡ Some x → joining.is_ready x.join ≡ true → waits x → Stands w.log r → Has r n x.join.inc (at_head x) → done_of x ≤ r.place
+  not_past w n x r j at rd wt st id = ⊎_elim
+      (λ (c : r.place < done_of x). absurd (
+      let h : NodeOk w n x = j.nodes n x at in
+      let d = h.view (h.ready_view rd) in
+      let within : done_of x ≤ length w.log.order = h.within in
+      let e = place_some w.log.order (r.place + 1) (omega arith) (omega arith) in
+      let pl : e.0.place ≡ r.place + 1 = j.log.places (r.place + 1) e.0 e.1 in
+      let se : Stands w.log e.0 = record { at = ap (at_place w.log.order) pl ∙ e.1 } in
+      let lr = j.log.logged r st in
+      let ls = j.log.logged e.0 se in
+      let o : w.log.view_at r.place ≤ w.log.view_at e.0.place = j.log.ordered r e.0 st se (omega arith) in
+      let v : w.log.view_at e.0.place ≤ x.join.view.number = ⊎_elim
+      (λ (b : x.join.view.number < w.log.view_at e.0.place).
+      let rc = j.log.recovered e.0 se in
+      let le : done_of x ≤ rc.0 = h.below (w.log.view_at e.0.place) rc.0 rc.1 b in
+      let lt : w.log.view_at e.0.place < w.log.view_at e.0.place = j.log.early (w.log.view_at e.0.place) rc.0 e.0 rc.1 se (omega arith) in
+      absurd (omega arith))
+      (λ (b : w.log.view_at e.0.place ≤ x.join.view.number). b)
+      (cases_lt x.join.view.number (w.log.view_at e.0.place)) in
+      h.waiting r e.0 ls.0 wt st id se (omega arith) ls.1
+      (j.chain.chain.unbroken (w.log.view_at r.place) (w.log.view_at e.0.place) x.join.view.number lr.0 ls.0 x.join.view n x.join.inc lr.1 ls.1 d.0 o v h.positive
+      (ap (inc_of lr.0.members) (sym id.node) ∙ sym lr.2 ∙ id.inc) d.1)))
+      (λ (c : done_of x ≤ r.place). c)
+      (cases_lt r.place (done_of x))
+
+  -- an acknowledgement is at no point below an earlier one
+  pub pop_points : (w : World M) (n : ℕ) (x : NodeState M) (r : Entry) (es : List Effect) → Invariant w → w.nodes n ≡ Some x → Done w n x r → acked es ≡ (x.join.view.number, r.place) ∷ [] → PointsOk w n (popped x) es
+  pop_points w n x r es j at d ea =
+      let h : NodeOk w n x = j.nodes n x at in
+      let at_place_ : (k v p : ℕ) → slice_get (acked es) k ≡ Some (v, p) → r.place ≡ p = λ k v p e. one_acked (λ (a b : ℕ). r.place ≡ b) x.join.view.number r.place refl k v p (subst (λ (l : List (ℕ × ℕ)). slice_get l k ≡ Some (v, p)) ea e) in
+      let below : (e : ℕ) → Past w n (w.starts n) e → e ≤ r.place = λ e o.
+      let P : Type 0 = e ≤ r.place in
+      let not_set : x.settled ≡ None → P = λ ns. let q : done_of x ≤ r.place = not_past w n x r j at d.ready (d.full, ns) d.stands d.id in omega (arith, q, o.done x at h.inc) in
+      let set_ : (k : ℕ) → x.settled ≡ Some k → P = λ k f.
+      let t = h.settled k f in
+      let same : r.place ≡ t.0.place = j.log.ids r t.0 d.stands t.1 (d.id.node ∙ sym t.3.node) (d.id.inc ∙ sym t.3.inc) (d.id.req ∙ sym t.3.req) in
+      omega (arith, same, t.2, o.settled x k at h.inc f) in
+      either x.settled not_set set_ in
+      record {
+        one = λ k l v p u q e f. sym (at_place_ k v p e) ∙ at_place_ l u q f;
+        each = λ k v p e. (λ c o. omega (arith, at_place_ k v p e, below c o), omega (arith, at_place_ k v p e, done_here w n x r j at d), refl);
+      }
+    where
+      either : {A : Type 0} {P : Type 0} (o : Option A) → (o ≡ None → P) → ((a : A) → o ≡ Some a → P) → P
+      either None n s = n refl
+      either (Some a) n s = s a refl
 
   -- the head leaves: told with the acknowledgement and these messages
   pub pop_ok : (w : World M) (n : ℕ) (x : NodeState M) (r : Entry) (es : List Effect) → Invariant w → w.nodes n ≡ Some x → Done w n x r
@@ -73,6 +129,8 @@ module _ {M : Machine} where
       let fa : greatest_asked x ≡ x.core.passed + 1 = full_asks x d.full in
       record {
         more = omega arith;
+        keeps_settled = λ k e. absurd (cc);
+        points = pop_points w n x r es j at d ea;
         more_asks = gr.asks;
         still = λ e q z. absurd (omega arith);
         new = λ s wt st id. absurd (not_asked w n x s (at_head (popped x)) j at st id (omega (arith, fa)));

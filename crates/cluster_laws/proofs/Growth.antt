@@ -9,7 +9,7 @@ use Rattle.view_reconcile.specs.Chains.{view_in}
 use Rattle.cluster_rules.specs.Machines.{Machine, replay}
 use Rattle.cluster_rules.specs.Packets.{Packet}
 use Rattle.cluster_rules.specs.Nodes.{NodeState, done_of}
-use Rattle.cluster_rules.specs.Worlds.{Log, World, put}
+use Rattle.cluster_rules.specs.Worlds.{Log, Point, World, put}
 use Rattle.cluster_laws.proofs.Inv.{AckOk, Asked, Has, LogOk, NodeOk, NotBefore, Requested, Stands, at_head, waits}
 use Rattle.cluster_laws.proofs.Stable.{AskedOnly, Ext, Longer, all_reached, asked_, bytes_stay, entered_, logged_in, reached, stands, was_ready}
 use Rattle.cluster_laws.proofs.Applying.{done_at}
@@ -62,20 +62,20 @@ fresh_or_old l r s v pl st = ⊎_elim
 
 module _ {M : Machine} where
   -- a world with one record more in the order, and perhaps other nodes, more messages and acknowledgements
-  abbrev pub grown_world : World M → Entry → ℕ → (ℕ → Option (NodeState M)) → List Packet → List (ℕ × ℕ) → World M
-  grown_world w r v nodes pool acks = record w { nodes = nodes; pool = pool; acks = acks; log = plus w.log r v }
+  abbrev pub grown_world : World M → Entry → ℕ → (ℕ → Option (NodeState M)) → List Packet → List (ℕ × ℕ) → List Point → World M
+  grown_world w r v nodes pool acks points = record w { nodes = nodes; pool = pool; acks = acks; points = points; log = plus w.log r v }
 
-  pub record Grows (w : World M) (r : Entry) (v : View) (nodes : ℕ → Option (NodeState M)) (pool : List Packet) (acks : List (ℕ × ℕ)) : Type 0 where
-    pub ext : Ext w (grown_world w r v.number nodes pool acks)
+  pub record Grows (w : World M) (r : Entry) (v : View) (nodes : ℕ → Option (NodeState M)) (pool : List Packet) (acks : List (ℕ × ℕ)) (points : List Point) : Type 0 where
+    pub ext : Ext w (grown_world w r v.number nodes pool acks points)
     pub place : r.place ≡ length w.log.order + 1
     pub view : view_in w.chain v.number ≡ Some v
     pub told : (a : ℕ) (p : ℕ × ℕ) → slice_get w.acks a ≡ Some p → slice_get acks a ≡ Some p
     pub near : (m : ℕ) (z : NodeState M) → w.nodes m ≡ Some z → waits z → Has r m z.join.inc (at_head z) → length w.log.order ≤ done_of z
     pub alone : (m : ℕ) (z : NodeState M) (s : Entry) → w.nodes m ≡ Some z → waits z → Stands w.log s → Has s m z.join.inc (at_head z) → inc_of v.members m ≢ z.join.inc
 
-  pub node_grows : (w : World M) (r : Entry) (v : View) (nodes : ℕ → Option (NodeState M)) (pool : List Packet) (acks : List (ℕ × ℕ)) (m : ℕ) (z : NodeState M) → LogOk w → Grows w r v nodes pool acks → w.nodes m ≡ Some z → NodeOk w m z → NodeOk (grown_world w r v.number nodes pool acks) m z
-  node_grows w r v nodes pool acks m z lo gs at h =
-      let w' : World M = grown_world w r v.number nodes pool acks in
+  pub node_grows : (w : World M) (r : Entry) (v : View) (nodes : ℕ → Option (NodeState M)) (pool : List Packet) (acks : List (ℕ × ℕ)) (points : List Point) (m : ℕ) (z : NodeState M) → LogOk w → Grows w r v nodes pool acks points → w.nodes m ≡ Some z → NodeOk w m z → NodeOk (grown_world w r v.number nodes pool acks points) m z
+  node_grows w r v nodes pool acks points m z lo gs at h =
+      let w' : World M = grown_world w r v.number nodes pool acks points in
       let e : Ext w w' = gs.ext in
       let lg : Longer M w.log w'.log = e.log in
       let ao : AskedOnly w = λ r s. (lo.asked r s).1 in
@@ -154,9 +154,9 @@ module _ {M : Machine} where
     pub recovered : (c : ℕ) × (w.log.count v.number ≡ Some c)
     pub low : (u c : ℕ) → w.log.count u ≡ Some c → u ≤ v.number
 
-  pub log_grows : (w : World M) (r : Entry) (v : View) (nodes : ℕ → Option (NodeState M)) (pool : List Packet) (acks : List (ℕ × ℕ)) → LogOk w → Grows w r v nodes pool acks → NewOk w r v → LogOk (grown_world w r v.number nodes pool acks)
-  log_grows w r v nodes pool acks h gs k =
-      let w' : World M = grown_world w r v.number nodes pool acks in
+  pub log_grows : (w : World M) (r : Entry) (v : View) (nodes : ℕ → Option (NodeState M)) (pool : List Packet) (acks : List (ℕ × ℕ)) (points : List Point) → LogOk w → Grows w r v nodes pool acks points → NewOk w r v → LogOk (grown_world w r v.number nodes pool acks points)
+  log_grows w r v nodes pool acks points h gs k =
+      let w' : World M = grown_world w r v.number nodes pool acks points in
       let e : Ext w w' = gs.ext in
       let within : length w.log.order ≤ length w'.log.order = e.log.within in
       let Old : Entry → Type 0 = λ s. Stands w.log s × (s.place ≤ length w.log.order) in
@@ -228,7 +228,7 @@ module _ {M : Machine} where
             (a.0, a.1, entered_ w w' (locker_of a.0.members) (inc_of a.0.members (locker_of a.0.members)) w.log.held e a.2);
       }
 
-  pub ack_grows : (w : World M) (r : Entry) (v : View) (nodes : ℕ → Option (NodeState M)) (pool : List Packet) (acks : List (ℕ × ℕ)) (u k : ℕ) → Grows w r v nodes pool acks → AckOk w u k → AckOk (grown_world w r v.number nodes pool acks) u k
-  ack_grows w r v nodes pool acks u k gs h =
-      let within : length w.log.order ≤ length (grown_world w r v.number nodes pool acks).log.order = gs.ext.log.within in
-      record { view = h.view; declared = h.declared; place = omega (arith, h.place, within); later = h.later; members = all_reached w (grown_world w r v.number nodes pool acks) h.view.members k gs.ext h.members }
+  pub ack_grows : (w : World M) (r : Entry) (v : View) (nodes : ℕ → Option (NodeState M)) (pool : List Packet) (acks : List (ℕ × ℕ)) (points : List Point) (u k : ℕ) → Grows w r v nodes pool acks points → AckOk w u k → AckOk (grown_world w r v.number nodes pool acks points) u k
+  ack_grows w r v nodes pool acks points u k gs h =
+      let within : length w.log.order ≤ length (grown_world w r v.number nodes pool acks points).log.order = gs.ext.log.within in
+      record { view = h.view; declared = h.declared; place = omega (arith, h.place, within); later = h.later; members = all_reached w (grown_world w r v.number nodes pool acks points) h.view.members k gs.ext h.members }

@@ -26,7 +26,7 @@ use Rattle.cluster_rules.specs.Updates.{asked_for, may_submit, on_applied, on_gr
 use Rattle.cluster_rules.specs.Worlds.{World, absorb, acked, noted, put}
 use Rattle.cluster_laws.proofs.Inv.{AckOk, AllReached, Asked, Has, Invariant, MemberOk, MsgOk, NodeOk, Owner, OwnerOk, Pooled, Reached, Requested, Stands, WasReady, at_head, greatest_asked, waits}
 use Rattle.cluster_laws.proofs.Stable.{AskedOnly, Ext, Grown, all_reached, asks_most, grown_refl, reached, was_ready}
-use Rattle.cluster_laws.proofs.Moves.{ext_on, move_on, with_requests, at_self, ext_absorb, moved, none_acked, one_told, put_cases, self_node, slice_get_front, stay_keeps, stay_sends, told}
+use Rattle.cluster_laws.proofs.Moves.{quiet_points, ext_on, move_on, with_history, at_self, ext_absorb, moved, none_acked, one_told, put_cases, self_node, slice_get_front, stay_keeps, stay_sends, told}
 use Rattle.cluster_laws.proofs.Applying.{and_true, length_some, eq_true}
 use Rattle.gum_core.proofs.Cases.{applied_cases, granted_cases, receiver_says, spread_cases}
 use Rattle.cluster_laws.proofs.Heads.{SpreadOk, append_some, asks_acks, asks_told, asked_head, empty_asks, full_asks, head_keeps, headed}
@@ -125,6 +125,8 @@ module _ {M : Machine} where
       let es : List Effect = Send (packet y to (Apply r)) ∷ [] in
       head_keeps w n x x.core.passed x.core.queue (Some sp) (Some r) x.settled x.outcome es j at (record {
         more = omega arith;
+        keeps_settled = λ k e. inl e;
+        points = quiet_points w n y es refl;
         more_asks = omega arith;
         still = λ e q z. z;
         new = λ a wt st i. (wt, refl);
@@ -228,7 +230,7 @@ module _ {M : Machine} where
       (λ a. un m i lt)
 
   -- the node with one request more
-  taken_keeps : (w : World M) (n : ℕ) (x : NodeState M) (u : Update) → Invariant w → w.nodes n ≡ Some x → may_submit x ≡ true → Invariant (absorb n (submits x (updating.submitted x.core u)) (with_requests w (more_requests w n x u)))
+  taken_keeps : (w : World M) (n : ℕ) (x : NodeState M) (u : Update) → Invariant w → w.nodes n ≡ Some x → may_submit x ≡ true → Invariant (absorb n (submits x (updating.submitted x.core u)) (with_history w (more_requests w n x u) w.points))
   taken_keeps w n x u j at g =
       let h : NodeOk w n x = j.nodes n x at in
       let op : x.core.is_open ≡ true = (and_true x.core.is_open (nat_lt (x.core.passed + length x.core.queue) updating.last_request) g).0 in
@@ -238,10 +240,10 @@ module _ {M : Machine} where
       let full : y.core.queue ≢ [] = append_some x.core.queue u in
       let fy : greatest_asked y ≡ x.core.passed + 1 = full_asks y full in
       let es : List Effect = asks y (asked_for (updating.first_ask x.core)) in
-      let w' : World M = moved (with_requests w rq) n y es in
-      let gr : Grown x y = record { inc = refl; done = omega arith; passed = omega arith; asks = omega (arith, fy, asks_most x); view = omega arith; waits = λ e q z. (q, z.1) } in
+      let w' : World M = moved (with_history w rq w.points) n y es in
+      let gr : Grown x y = record { inc = refl; done = omega arith; passed = omega arith; asks = omega (arith, fy, asks_most x); view = omega arith; settled = λ k e. inl e; waits = λ e q z. (q, z.1) } in
       let more = requests_on w n x u in
-      let e : Ext w w' = ext_on w rq n x y es more at gr in
+      let e : Ext w w' = ext_on w rq w.points n x y es more at gr in
       let ao : AskedOnly w = λ r s. (j.log.asked r s).1 in
       let fresh_ : (r : Entry) → Asked w r.id.node r.id.inc r.id.req → Has r n x.join.inc (at_head y) → x.core.queue ≢ [] = λ r a id z. absurd (omega (arith, asked_head w n x r (at_head y) at a id, empty_asks x z)) in
       let waits_ : (r : Entry) → waits y → Stands w.log r → Has r n x.join.inc (at_head y) → waits x = λ r wt s id. (fresh_ r (j.log.asked r s).1 id, wt.1) in
@@ -252,7 +254,7 @@ module _ {M : Machine} where
       (λ (c : slice_get x.core.queue k ≡ Some v). more n x.join.inc (x.core.passed + (k + 1)) v (h.queued k v c))
       (λ (c : (k ≡ length x.core.queue) × (v ≡ u)). subst (λ (t : ℕ). at_place (rq n x.join.inc) t ≡ Some v) (omega (arith, c.0)) (subst (λ (t : Update). at_place (rq n x.join.inc) (x.core.passed + length x.core.queue + 1) ≡ Some t) (sym c.1) new))
       (get_push x.core.queue u k v f) in
-      move_on w rq n x y es more (other_requests w n x u) (unasked_on w n x u h j.log.unasked) j at (record {
+      move_on w rq w.points n x y es more (other_requests w n x u) (unasked_on w n x u h j.log.unasked) j.points j.steady j at (record {
         grown = gr;
         node = record {
           node = h.node;
@@ -310,11 +312,12 @@ module _ {M : Machine} where
                 c.1,
                 c.2,
                 record { none = λ r s id. absurd (fresh_ r (j.log.asked r (record { at = s })).1 (record { node = id.node; inc = id.inc ∙ here; req = id.req ∙ sym b.1 }) (no_length x.core.queue none)) },
-                record { started = omega (arith, h.inc, here); asks = λ z d same. self_node (with_requests w rq) n y es (λ (t : NodeState M). req ≤ greatest_asked t) (omega (arith, fy, b.1)) z d },
+                record { started = omega (arith, h.inc, here); asks = λ z d same. self_node (with_history w rq w.points) n y es (λ (t : NodeState M). req ≤ greatest_asked t) (omega (arith, fy, b.1)) z d },
                 subst (λ (i : ℕ). at_place (rq n i) req ≡ Some v) (sym here) asked,
               );
             });
         acks = λ k v p s. none_acked (λ (a b : ℕ). AckOk w' a b) k v p (subst (λ (l : List (ℕ × ℕ)). slice_get l k ≡ Some (v, p)) (asks_acks y (asked_for (updating.first_ask x.core))) s);
+        points = quiet_points w n y es (asks_acks y (asked_for (updating.first_ask x.core)));
         owner = λ o.
             let ox : Owner w n x = record { runs = at; ready = o.ready; locker = o.locker; held = o.held } in
             let k : OwnerOk w n x = j.owner n x ox in
@@ -339,6 +342,6 @@ module _ {M : Machine} where
   pub submit_keeps : (w : World M) (n : ℕ) (x : NodeState M) (u : Update) → Invariant w → w.nodes n ≡ Some x → Invariant (absorb n (submit x u) (noted n x u w))
   submit_keeps w n x u j at = both (may_submit x) refl
     where
-      both : (b : Bool) → may_submit x ≡ b → Invariant (absorb n (if b then submits x (updating.submitted x.core u) else nothing x) (if b then with_requests w (more_requests w n x u) else w))
+      both : (b : Bool) → may_submit x ≡ b → Invariant (absorb n (if b then submits x (updating.submitted x.core u) else nothing x) (if b then with_history w (more_requests w n x u) w.points else w))
       both true g = taken_keeps w n x u j at g
       both false g = stay_keeps w n x j at

@@ -15,7 +15,7 @@ use Rattle.cluster_rules.specs.Nodes.{Effect, NodeState, Send, asks, becomes, do
 use Rattle.cluster_rules.specs.Worlds.{World, acked, sent}
 use Rattle.cluster_laws.proofs.Inv.{AckOk, Asked, Has, Invariant, LoggedIn, MemberOk, NodeOk, Pooled, Reached, Requested, Stands, at_head, greatest_asked, waits}
 use Rattle.cluster_laws.proofs.Stable.{AskedOnly, Ext, Grown, reached}
-use Rattle.cluster_laws.proofs.Moves.{ext_absorb, move_keeps, moved, node_stays, none_told, one_told, owner_moves, self_node, told}
+use Rattle.cluster_laws.proofs.Moves.{PointsOk, ext_absorb, move_keeps, moved, node_stays, none_told, one_told, owner_moves, self_node, told}
 
 pub no_list : {A : Type 0} (l : List A) → (l ≡ []) ⊎ (l ≢ [])
 no_list [] = inl refl
@@ -66,6 +66,7 @@ module _ {M : Machine} where
 
   pub record HeadOk (w : World M) (n : ℕ) (x y : NodeState M) (es : List Effect) : Type 0 where
     pub more : x.core.passed ≤ y.core.passed
+    pub keeps_settled : (k : ℕ) → y.settled ≡ Some k → (x.settled ≡ Some k) ⊎ (done_of x ≤ k)
     pub more_asks : greatest_asked x ≤ greatest_asked y
     pub still : x.core.passed ≡ y.core.passed → x.core.queue ≢ [] → waits y → waits x
     pub new : (r : Entry) → waits y → Stands w.log r → Has r n x.join.inc (at_head y) → waits x × (x.core.passed ≡ y.core.passed)
@@ -80,6 +81,7 @@ module _ {M : Machine} where
     pub all_requests : y.core.passed + length y.core.queue ≡ x.core.passed + length x.core.queue
     pub finished : (q : ℕ) → x.core.passed < q → q ≤ y.core.passed → (r : Entry) × (a v : ℕ) × Stands w.log r × Has r n x.join.inc q × (slice_get (w.acks ++ acked es) a ≡ Some (v, r.place)) × (v ≤ x.join.view.number)
     pub messages : (k : ℕ) (p : Packet) → slice_get (sent es) k ≡ Some p → Pooled (moved w n y es) p
+    pub points : PointsOk w n y es
     pub acks : (k v p : ℕ) → slice_get (acked es) k ≡ Some (v, p) → AckOk (moved w n y es) v p
 
   pub head_keeps : (w : World M) (n : ℕ) (x : NodeState M) (p : ℕ) (q : List Update) (sp : Option Spreading) (e : Option Entry) (st : Option ℕ) (o : Option M.Outcome) (es : List Effect) → Invariant w → w.nodes n ≡ Some x → HeadOk w n x (headed x p q sp e st o) es → Invariant (moved w n (headed x p q sp e st o) es)
@@ -88,7 +90,7 @@ module _ {M : Machine} where
       let h : NodeOk w n x = j.nodes n x at in
       let w' : World M = moved w n y es in
       let ao : AskedOnly w = λ r s. (j.log.asked r s).1 in
-      let gr : Grown x y = record { inc = refl; done = omega arith; passed = k.more; asks = k.more_asks; view = omega arith; waits = k.still } in
+      let gr : Grown x y = record { inc = refl; done = omega arith; passed = k.more; asks = k.more_asks; view = omega arith; settled = k.keeps_settled; waits = k.still } in
       let ex : Ext w w' = ext_absorb w n x y es at gr in
       let g : NodeOk w' n x = node_stays w n (becomes y es) n x ex ao h in
       let at_old : (r : Entry) → waits y → Stands w.log r → Has r n x.join.inc (at_head y) → waits x × Has r n x.join.inc (at_head x) =
@@ -140,6 +142,7 @@ module _ {M : Machine} where
         };
         messages = k.messages;
         acks = k.acks;
+        points = k.points;
         owner = owner_moves w n x y es j at (record { ready = refl; open_ = refl; node = refl; view = refl; lock = refl; members = refl; greatest = refl; done = refl })
             (λ ow ok op i. let old : MemberOk w.log x.core.lock n x = ok.members op n x at i in
             record { near = old.near; free = old.free; heads = λ r wt sr id. let was = at_old r wt sr id in let f = old.heads r was.0 sr was.1 in (f.0, f.1, f.2, f.3 ∙ sym was.1.req ∙ id.req) });

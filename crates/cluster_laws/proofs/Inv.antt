@@ -16,7 +16,7 @@ use Rattle.view_reconcile.specs.Chains.{IsChain, view_in}
 use Rattle.cluster_rules.specs.Machines.{Machine, outcome_at, registry_at}
 use Rattle.cluster_rules.specs.Packets.{Body, Packet, Ask, Granted, Apply, Applied, Release, Offer, Need, Piece, Ready, OpenView}
 use Rattle.cluster_rules.specs.Nodes.{NodeState, Offering, Replica, done_of, has_state}
-use Rattle.cluster_rules.specs.Worlds.{Log, World}
+use Rattle.cluster_rules.specs.Worlds.{Log, Point, World}
 
 module _ {M : Machine} where
   -- What once true stays true, of one incarnation of a node, where it runs
@@ -42,6 +42,12 @@ module _ {M : Machine} where
   pub record Asked (w : World M) (n i req : ℕ) : Type 0 where
     pub started : i ≤ w.starts n
     pub asks : (x : NodeState M) → w.nodes n ≡ Some x → x.join.inc ≡ i → req ≤ greatest_asked x
+
+  -- it answered at this point: it has the records, and a settled head stands no lower
+  pub record Past (w : World M) (n i d : ℕ) : Type 0 where
+    pub started : i ≤ w.starts n
+    pub done : (x : NodeState M) → w.nodes n ≡ Some x → x.join.inc ≡ i → d ≤ done_of x
+    pub settled : (x : NodeState M) (k : ℕ) → w.nodes n ≡ Some x → x.join.inc ≡ i → x.settled ≡ Some k → d ≤ k
 
   -- the update of a request
   abbrev pub Requested : World M → ℕ → ℕ → ℕ → Update → Type 0
@@ -246,3 +252,5 @@ module _ {M : Machine} where
     pub owner : (n : ℕ) (x : NodeState M) → Owner w n x → OwnerOk w n x
     pub pool : (k : ℕ) (p : Packet) → slice_get w.pool k ≡ Some p → Pooled w p
     pub acks : (a v k : ℕ) → slice_get w.acks a ≡ Some (v, k) → AckOk w v k
+    pub points : (a : ℕ) (p : Point) → slice_get w.points a ≡ Some p → Past w p.node p.inc p.place
+    pub steady : (a b : ℕ) (p q : Point) → slice_get w.points a ≡ Some p → slice_get w.points b ≡ Some q → a ≤ b → p.node ≡ q.node → p.inc ≡ q.inc → p.place ≤ q.place

@@ -20,3 +20,4 @@ pub mod Ticking
 pub mod Lockers
 pub mod Theorem
 pub mod Points
+pub mod Orders

@@ -1,5 +1,5 @@
 -- The lock is released.
-use Rattle.std.proofs.Common.{◌≡◌, ◌≢◌, ⊎_elim, ℕ, ◌<◌, ◌≤◌, true, [], length, Some, None, refl, sym, ap, ◌∙◌, subst, arith}
+use Rattle.std.proofs.Common.{◌≡◌, ◌≢◌, inl, ⊎_elim, ℕ, ◌<◌, ◌≤◌, true, [], length, Some, None, refl, sym, ap, ◌∙◌, subst, arith}
 use Rattle.gum_messages.specs.Members.{inc_of}
 use Rattle.update_records.specs.Entry.{Entry}
 use Rattle.gum_core.specs.declared.lock.Lock.{Lock}
@@ -14,7 +14,7 @@ use Rattle.cluster_rules.specs.Updates.{on_release}
 use Rattle.cluster_rules.specs.Worlds.{World, absorb}
 use Rattle.cluster_laws.proofs.Inv.{AckOk, Finished, Has, Invariant, MemberOk, MsgOk, NodeOk, Owner, OwnerOk, Pooled, Stands, at_head}
 use Rattle.cluster_laws.proofs.Stable.{Grown}
-use Rattle.cluster_laws.proofs.Moves.{at_self, move_keeps, moved, node_in, none_acked, none_told, put_cases, stay_keeps}
+use Rattle.cluster_laws.proofs.Moves.{quiet_points, at_self, move_keeps, moved, node_in, none_acked, none_told, put_cases, stay_keeps}
 use Rattle.gum_core.proofs.Cases.{released_cases}
 
 module _ {M : Machine} where
@@ -51,7 +51,7 @@ module _ {M : Machine} where
   unlock_keeps w n x from q l j at pos ok lk ln lq =
       let h : NodeOk w n x = j.nodes n x at in
       let y : NodeState M = unlocked x in
-      let gr : Grown x y = record { inc = refl; done = omega arith; passed = omega arith; asks = omega arith; view = omega arith; waits = λ e f z. z } in
+      let gr : Grown x y = record { inc = refl; done = omega arith; passed = omega arith; asks = omega arith; view = omega arith; settled = λ k e. inl e; waits = λ e f z. z } in
       move_keeps w n x y [] j at (record {
         grown = gr;
         node = node_in w n x y [] j at gr (record {
@@ -95,6 +95,7 @@ module _ {M : Machine} where
         });
         messages = none_told (λ (p : Packet). Pooled (moved w n y []) p);
         acks = none_acked (λ (a b : ℕ). AckOk (moved w n y []) a b);
+        points = quiet_points w n y [] refl;
         owner = λ o.
             let ox : Owner w n x = record { runs = at; ready = o.ready; locker = o.locker; held = o.held } in
             let k : OwnerOk w n x = j.owner n x ox in

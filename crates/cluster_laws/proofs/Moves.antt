@@ -1,5 +1,5 @@
 -- A world in which one node has moved and messages were sent, its log as before.
-use Rattle.std.proofs.Common.{◌≡◌, ◌≢◌, ◌⊎◌, inl, inr, ⊎_elim, ℕ, zero, suc, ◌+◌, ◌<◌, ◌≤◌, true, List, [], ◌∷◌, ◌++◌, length, Option, Some, slice_get, unwrap_or, refl, sym, ap, ◌∙◌, subst, arith}
+use Rattle.std.proofs.Common.{◌≡◌, ◌≢◌, ◌⊎◌, inl, inr, ⊎_elim, ℕ, zero, suc, ◌+◌, ◌<◌, ◌≤◌, true, List, [], ◌∷◌, ◌++◌, length, Option, Some, None, slice_get, unwrap_or, refl, sym, ap, ◌∙◌, subst, arith}
 use Rattle.gum_messages.specs.declared.member.Member.{Member}
 use Rattle.gum_messages.specs.declared.view.View.{View}
 use Rattle.gum_messages.specs.Members.{inc_of, is_locker, locker_of, index_of}
@@ -13,9 +13,9 @@ use Rattle.view_reconcile.specs.Chains.{view_in}
 use Rattle.cluster_rules.specs.Machines.{Machine}
 use Rattle.cluster_rules.specs.Packets.{Body, Packet}
 use Rattle.cluster_rules.specs.Nodes.{Effect, NodeState, Out, Send, becomes, done_of, nothing, packet, tells}
-use Rattle.cluster_rules.specs.Worlds.{World, absorb, acked, put, sent}
-use Rattle.cluster_laws.proofs.Inv.{AckOk, Invariant, LogOk, MemberOk, MsgOk, NodeOk, Owner, OwnerOk, Pooled, Reached, Requested}
-use Rattle.cluster_laws.proofs.Stable.{AskedOnly, Ext, Grown, all_reached, asked_, entered_, grown_refl, longer_refl, pooled, reached, was_ready}
+use Rattle.cluster_rules.specs.Worlds.{Point, World, absorb, acked, answered, put, sent}
+use Rattle.cluster_laws.proofs.Inv.{AckOk, Invariant, LogOk, MemberOk, MsgOk, NodeOk, Owner, OwnerOk, Past, Pooled, Reached, Requested}
+use Rattle.cluster_laws.proofs.Stable.{AskedOnly, Ext, Grown, all_reached, asked_, entered_, grown_refl, longer_refl, past, pooled, reached, was_ready}
 
 pub put_cases : {A : Type 0} (f : ℕ → Option A) (n : ℕ) (v : Option A) (m : ℕ) (z : A) → put f n v m ≡ Some z → ((m ≡ n) × (v ≡ Some z)) ⊎ ((m ≢ n) × (f m ≡ Some z))
 put_cases f n v m z e = grind arith
@@ -33,6 +33,24 @@ slice_get_front (x ∷ xs) ys (suc k) p e = slice_get_front xs ys k p e
 pub slice_get_back : {A : Type 0} (xs ys : List A) (k : ℕ) (p : A) → slice_get ys k ≡ Some p → (j : ℕ) × (slice_get (xs ++ ys) j ≡ Some p)
 slice_get_back [] ys k p e = (k, e)
 slice_get_back (x ∷ xs) ys k p e = let r : (j : ℕ) × (slice_get (xs ++ ys) j ≡ Some p) = slice_get_back xs ys k p e in (suc r.0, r.1)
+
+pub slice_split : {A : Type 0} (xs ys : List A) (k : ℕ) (z : A) → slice_get (xs ++ ys) k ≡ Some z → ((k < length xs) × (slice_get xs k ≡ Some z)) ⊎ ((length xs ≤ k) × (j : ℕ) × (slice_get ys j ≡ Some z))
+slice_split [] ys k z e = inr (omega arith, k, e)
+slice_split (x ∷ xs) ys zero z e = inl (omega arith, e)
+slice_split (x ∷ xs) ys (suc k) z e = ⊎_elim
+    (λ (c : (k < length xs) × (slice_get xs k ≡ Some z)). inl (let h : k < length xs = c.0 in omega arith, c.1))
+    (λ (c : (length xs ≤ k) × (j : ℕ) × (slice_get ys j ≡ Some z)). inr (let h : length xs ≤ k = c.0 in omega arith, c.1, c.2))
+    (slice_split xs ys k z e)
+
+pub answered_get : (n i : ℕ) (l : List (ℕ × ℕ)) (k : ℕ) (p : Point) → slice_get (answered n i l) k ≡ Some p → (v : ℕ) × (slice_get l k ≡ Some (v, p.place)) × (p.node ≡ n) × (p.inc ≡ i)
+answered_get n i [] k p e = absurd (no k e)
+  where
+    no : {p : Point} (k : ℕ) → slice_get [] k ≡ Some p → ⊥
+    no k e = cc
+answered_get n i (a ∷ l) zero p e =
+    let q : record { node = n; inc = i; place = a.1 } ≡ p = cc in
+    (a.0, ap (λ (t : Point). Some (a.0, t.place)) q, sym (ap (λ (t : Point). t.node) q), sym (ap (λ (t : Point). t.inc) q))
+answered_get n i (a ∷ l) (suc k) p e = answered_get n i l k p e
 
 -- what is told, one by one
 pub one_told : (P : Packet → Type 0) (p : Packet) → P p → (k : ℕ) (m : Packet) → slice_get (p ∷ []) k ≡ Some m → P m
@@ -62,11 +80,12 @@ module _ {M : Machine} where
   at_self P a n y b e f p = let g : y ≡ b = cc in subst (λ (t : NodeState M). P a t) g (subst (λ (t : ℕ). P t y) (sym e) p)
 
   -- the world in which it also took requests
-  abbrev pub with_requests : World M → (ℕ → ℕ → List Update) → World M
-  with_requests w rq = record w { requests = rq }
+  -- the same world with another history
+  abbrev pub with_history : World M → (ℕ → ℕ → List Update) → List Point → World M
+  with_history w rq ps = record w { requests = rq; points = ps }
 
-  pub ext_on : (w : World M) (rq : ℕ → ℕ → List Update) (n : ℕ) (x y : NodeState M) (es : List Effect) → ((m i q : ℕ) (u : Update) → Requested w m i q u → at_place (rq m i) q ≡ Some u) → w.nodes n ≡ Some x → Grown x y → Ext w (moved (with_requests w rq) n y es)
-  ext_on w rq n x y es more at g = record {
+  pub ext_on : (w : World M) (rq : ℕ → ℕ → List Update) (ps : List Point) (n : ℕ) (x y : NodeState M) (es : List Effect) → ((m i q : ℕ) (u : Update) → Requested w m i q u → at_place (rq m i) q ≡ Some u) → w.nodes n ≡ Some x → Grown x y → Ext w (moved (with_history w rq ps) n y es)
+  ext_on w rq ps n x y es more at g = record {
     log = longer_refl w.log;
     chain = λ v u e. e;
     starts = λ m. omega arith;
@@ -78,12 +97,12 @@ module _ {M : Machine} where
   }
 
   pub ext_absorb : (w : World M) (n : ℕ) (x y : NodeState M) (es : List Effect) → w.nodes n ≡ Some x → Grown x y → Ext w (moved w n y es)
-  ext_absorb w n x y es at g = ext_on w w.requests n x y es (λ m i q u e. e) at g
+  ext_absorb w n x y es at g = ext_on w w.requests w.points n x y es (λ m i q u e. e) at g
 
   -- what holds of a node stays, where its world grows and has the same log
-  pub node_on : (w : World M) (rq : ℕ → ℕ → List Update) (n : ℕ) (o : Out M) (m : ℕ) (y : NodeState M) → Ext w (absorb n o (with_requests w rq)) → AskedOnly w → length (rq m y.join.inc) ≡ length (w.requests m y.join.inc) → NodeOk w m y → NodeOk (absorb n o (with_requests w rq)) m y
-  node_on w rq n o m y e a same h =
-      let w' : World M = absorb n o (with_requests w rq) in record {
+  pub node_on : (w : World M) (rq : ℕ → ℕ → List Update) (ps : List Point) (n : ℕ) (o : Out M) (m : ℕ) (y : NodeState M) → Ext w (absorb n o (with_history w rq ps)) → AskedOnly w → length (rq m y.join.inc) ≡ length (w.requests m y.join.inc) → NodeOk w m y → NodeOk (absorb n o (with_history w rq ps)) m y
+  node_on w rq ps n o m y e a same h =
+      let w' : World M = absorb n o (with_history w rq ps) in record {
         node = h.node;
         inc = h.inc;
         positive = h.positive;
@@ -127,11 +146,11 @@ module _ {M : Machine} where
       }
 
   pub node_stays : (w : World M) (n : ℕ) (o : Out M) (m : ℕ) (y : NodeState M) → Ext w (absorb n o w) → AskedOnly w → NodeOk w m y → NodeOk (absorb n o w) m y
-  node_stays w n o m y e a h = node_on w w.requests n o m y e a refl h
+  node_stays w n o m y e a h = node_on w w.requests w.points n o m y e a refl h
 
-  pub log_on : (w : World M) (rq : ℕ → ℕ → List Update) (n : ℕ) (o : Out M) → Ext w (absorb n o (with_requests w rq)) → ((m i : ℕ) → w.starts m < i → length (rq m i) ≡ 0) → LogOk w → LogOk (absorb n o (with_requests w rq))
-  log_on w rq n o e un h =
-      let w' : World M = absorb n o (with_requests w rq) in record {
+  pub log_on : (w : World M) (rq : ℕ → ℕ → List Update) (ps : List Point) (n : ℕ) (o : Out M) → Ext w (absorb n o (with_history w rq ps)) → ((m i : ℕ) → w.starts m < i → length (rq m i) ≡ 0) → LogOk w → LogOk (absorb n o (with_history w rq ps))
+  log_on w rq ps n o e un h =
+      let w' : World M = absorb n o (with_history w rq ps) in record {
         places = h.places;
         ids = h.ids;
         logged = h.logged;
@@ -158,7 +177,7 @@ module _ {M : Machine} where
       }
 
   pub log_stays : (w : World M) (n : ℕ) (o : Out M) → Ext w (absorb n o w) → LogOk w → LogOk (absorb n o w)
-  log_stays w n o e h = log_on w w.requests n o e h.unasked h
+  log_stays w n o e h = log_on w w.requests w.points n o e h.unasked h
 
   pub ack_stays : (w : World M) (n : ℕ) (o : Out M) (v k : ℕ) → Ext w (absorb n o w) → AckOk w v k → AckOk (absorb n o w) v k
   ack_stays w n o v k e h = record { view = h.view; declared = h.declared; place = h.place; later = h.later; members = all_reached w (absorb n o w) h.view.members k e h.members }
@@ -166,26 +185,44 @@ module _ {M : Machine} where
   pub node_in : (w : World M) (n : ℕ) (x y : NodeState M) (es : List Effect) → Invariant w → w.nodes n ≡ Some x → Grown x y → NodeOk w n y → NodeOk (moved w n y es) n y
   node_in w n x y es j at g h = node_stays w n (becomes y es) n y (ext_absorb w n x y es at g) (λ r s. (j.log.asked r s).1) h
 
+  -- what the moved node itself has
+  pub self_node : (w : World M) (n : ℕ) (y : NodeState M) (es : List Effect) (P : NodeState M → Type 0) → P y → (z : NodeState M) → (moved w n y es).nodes n ≡ Some z → P z
+  self_node w n y es P p z e = ⊎_elim
+      (λ (d : (n ≡ n) × (Some y ≡ Some z)). let g : y ≡ z = cc in subst P g p)
+      (λ (d : (n ≢ n) × (w.nodes n ≡ Some z)). absurd (d.0 refl))
+      (put_cases w.nodes n (Some y) n z e)
+
+  -- what an acknowledgement owes: it is the one point of the event, and no earlier point of the incarnation is above it
+  pub record PointsOk (w : World M) (n : ℕ) (y : NodeState M) (es : List Effect) : Type 0 where
+    pub one : (k l v p u q : ℕ) → slice_get (acked es) k ≡ Some (v, p) → slice_get (acked es) l ≡ Some (u, q) → p ≡ q
+    pub each : (k v p : ℕ) → slice_get (acked es) k ≡ Some (v, p) → ((d : ℕ) → Past w n (w.starts n) d → d ≤ p) × (p ≤ done_of y) × (y.settled ≡ None)
+
+  pub quiet_points : (w : World M) (n : ℕ) (y : NodeState M) (es : List Effect) → acked es ≡ [] → PointsOk w n y es
+  quiet_points w n y es na =
+      let no : (k v p : ℕ) → slice_get (acked es) k ≡ Some (v, p) → ⊥ = λ k v p e. none_acked (λ (a b : ℕ). ⊥) k v p (subst (λ (l : List (ℕ × ℕ)). slice_get l k ≡ Some (v, p)) na e) in
+      record { one = λ k l v p u q e f. absurd (no k v p e); each = λ k v p e. absurd (no k v p e) }
+
   -- what a rule owes that moves one node and leaves the log
-  pub record MoveOk (w : World M) (rq : ℕ → ℕ → List Update) (n : ℕ) (x y : NodeState M) (es : List Effect) : Type 0 where
+  pub record MoveOk (w : World M) (rq : ℕ → ℕ → List Update) (ps : List Point) (n : ℕ) (x y : NodeState M) (es : List Effect) : Type 0 where
     pub grown : Grown x y
-    pub node : NodeOk (moved (with_requests w rq) n y es) n y
-    pub messages : (k : ℕ) (p : Packet) → slice_get (sent es) k ≡ Some p → Pooled (moved (with_requests w rq) n y es) p
-    pub acks : (k v p : ℕ) → slice_get (acked es) k ≡ Some (v, p) → AckOk (moved (with_requests w rq) n y es) v p
-    pub owner : Owner (moved (with_requests w rq) n y es) n y → OwnerOk (moved (with_requests w rq) n y es) n y
+    pub node : NodeOk (moved (with_history w rq ps) n y es) n y
+    pub messages : (k : ℕ) (p : Packet) → slice_get (sent es) k ≡ Some p → Pooled (moved (with_history w rq ps) n y es) p
+    pub acks : (k v p : ℕ) → slice_get (acked es) k ≡ Some (v, p) → AckOk (moved (with_history w rq ps) n y es) v p
+    pub owner : Owner (moved (with_history w rq ps) n y es) n y → OwnerOk (moved (with_history w rq ps) n y es) n y
+    pub points : PointsOk w n y es
     pub member : (m : ℕ) (z : NodeState M) → m ≢ n → Owner w m z → OwnerOk w m z → joining.is_open z.join ≡ true → inc_of z.join.view.members n ≡ y.join.inc → MemberOk w.log z.core.lock n y
 
-  pub move_on : (w : World M) (rq : ℕ → ℕ → List Update) (n : ℕ) (x y : NodeState M) (es : List Effect) → ((m i q : ℕ) (u : Update) → Requested w m i q u → at_place (rq m i) q ≡ Some u) → ((m : ℕ) → m ≢ n → rq m ≡ w.requests m) → ((m i : ℕ) → w.starts m < i → length (rq m i) ≡ 0) → Invariant w → w.nodes n ≡ Some x → MoveOk w rq n x y es → Invariant (moved (with_requests w rq) n y es)
-  move_on w rq n x y es more others un j at h =
-      let w' : World M = moved (with_requests w rq) n y es in
-      let e : Ext w w' = ext_on w rq n x y es more at h.grown in
+  pub move_on : (w : World M) (rq : ℕ → ℕ → List Update) (ps : List Point) (n : ℕ) (x y : NodeState M) (es : List Effect) → ((m i q : ℕ) (u : Update) → Requested w m i q u → at_place (rq m i) q ≡ Some u) → ((m : ℕ) → m ≢ n → rq m ≡ w.requests m) → ((m i : ℕ) → w.starts m < i → length (rq m i) ≡ 0) → ((a : ℕ) (p : Point) → slice_get ps a ≡ Some p → Past w p.node p.inc p.place) → ((a b : ℕ) (p q : Point) → slice_get ps a ≡ Some p → slice_get ps b ≡ Some q → a ≤ b → p.node ≡ q.node → p.inc ≡ q.inc → p.place ≤ q.place) → Invariant w → w.nodes n ≡ Some x → MoveOk w rq ps n x y es → Invariant (moved (with_history w rq ps) n y es)
+  move_on w rq ps n x y es more others un pasts steadies j at h =
+      let w' : World M = moved (with_history w rq ps) n y es in
+      let e : Ext w w' = ext_on w rq ps n x y es more at h.grown in
       let ao : AskedOnly w = λ r s. (j.log.asked r s).1 in
       record {
         chain = record { chain = j.chain.chain; started = j.chain.started; locker = j.chain.locker };
-        log = log_on w rq n (becomes y es) e un j.log;
+        log = log_on w rq ps n (becomes y es) e un j.log;
         nodes = λ m z s. ⊎_elim
             (λ (c : (m ≡ n) × (Some y ≡ Some z)). at_self (λ (a : ℕ) (b : NodeState M). NodeOk w' a b) m n y z c.0 c.1 h.node)
-            (λ (c : (m ≢ n) × (w.nodes m ≡ Some z)). node_on w rq n (becomes y es) m z e ao (ap (λ (f : ℕ → List Update). length (f z.join.inc)) (others m c.0)) (j.nodes m z c.1))
+            (λ (c : (m ≢ n) × (w.nodes m ≡ Some z)). node_on w rq ps n (becomes y es) m z e ao (ap (λ (f : ℕ → List Update). length (f z.join.inc)) (others m c.0)) (j.nodes m z c.1))
             (put_cases w.nodes n (Some y) m z s);
         owner = λ m z s. ⊎_elim
             (λ (c : (m ≡ n) × (Some y ≡ Some z)). at_self (λ (a : ℕ) (b : NodeState M). Owner w' a b → OwnerOk w' a b) m n y z c.0 c.1 h.owner s)
@@ -211,10 +248,38 @@ module _ {M : Machine} where
             (λ (c : slice_get w.acks a ≡ Some (v, k)). (let g = j.acks a v k c in record { view = g.view; declared = g.declared; place = g.place; later = g.later; members = all_reached w w' g.view.members k e g.members }))
             (λ (c : (i : ℕ) × (slice_get (acked es) i ≡ Some (v, k))). h.acks c.0 v k c.1)
             (slice_get_append w.acks (acked es) a (v, k) s);
+        points = λ a p s. ⊎_elim
+            (λ (c : slice_get ps a ≡ Some p). past w w' p.node p.inc p.place e (pasts a p c))
+            (λ (c : (i : ℕ) × (slice_get (answered n (w.starts n) (acked es)) i ≡ Some p)).
+            let g = answered_get n (w.starts n) (acked es) c.0 p c.1 in
+            let o = h.points.each c.0 g.0 p.place g.1 in
+            let here : Past w' n (w.starts n) p.place = record {
+              started = omega arith;
+              done = λ z at2 same. self_node (with_history w rq ps) n y es (λ (t : NodeState M). p.place ≤ done_of t) o.1 z at2;
+              settled = λ z k at2 same. self_node (with_history w rq ps) n y es (λ (t : NodeState M). t.settled ≡ Some k → p.place ≤ k) (λ f. absurd (let q : ◌≡◌ {A = Option ℕ} None (Some k) = sym o.2 ∙ f in cc)) z at2;
+            } in
+            subst (λ (t : ℕ). Past w' p.node t p.place) (sym g.3) (subst (λ (t : ℕ). Past w' t (w.starts n) p.place) (sym g.2) here))
+            (slice_get_append ps (answered n (w.starts n) (acked es)) a p s);
+        steady = λ a b p q sa sb le nd ic. ⊎_elim
+            (λ (c : (a < length ps) × (slice_get ps a ≡ Some p)). ⊎_elim
+            (λ (d : (b < length ps) × (slice_get ps b ≡ Some q)). steadies a b p q c.1 d.1 le nd ic)
+            (λ (d : (length ps ≤ b) × (i : ℕ) × (slice_get (answered n (w.starts n) (acked es)) i ≡ Some q)).
+            let g = answered_get n (w.starts n) (acked es) d.1 q d.2 in
+            let old : Past w n (w.starts n) p.place = subst (λ (t : ℕ). Past w n t p.place) (ic ∙ g.3) (subst (λ (t : ℕ). Past w t p.inc p.place) (nd ∙ g.2) (pasts a p c.1)) in
+            (h.points.each d.1 g.0 q.place g.1).0 p.place old)
+            (slice_split ps (answered n (w.starts n) (acked es)) b q sb))
+            (λ (c : (length ps ≤ a) × (i : ℕ) × (slice_get (answered n (w.starts n) (acked es)) i ≡ Some p)). ⊎_elim
+            (λ (d : (b < length ps) × (slice_get ps b ≡ Some q)). absurd (omega arith))
+            (λ (d : (length ps ≤ b) × (i : ℕ) × (slice_get (answered n (w.starts n) (acked es)) i ≡ Some q)).
+            let g = answered_get n (w.starts n) (acked es) c.1 p c.2 in
+            let f = answered_get n (w.starts n) (acked es) d.1 q d.2 in
+            omega (arith, h.points.one c.1 d.1 g.0 p.place f.0 q.place g.1 f.1))
+            (slice_split ps (answered n (w.starts n) (acked es)) b q sb))
+            (slice_split ps (answered n (w.starts n) (acked es)) a p sa);
       }
 
-  pub move_keeps : (w : World M) (n : ℕ) (x y : NodeState M) (es : List Effect) → Invariant w → w.nodes n ≡ Some x → MoveOk w w.requests n x y es → Invariant (moved w n y es)
-  move_keeps w n x y es j at h = move_on w w.requests n x y es (λ m i q u e. e) (λ m ne. refl) j.log.unasked j at h
+  pub move_keeps : (w : World M) (n : ℕ) (x y : NodeState M) (es : List Effect) → Invariant w → w.nodes n ≡ Some x → MoveOk w w.requests w.points n x y es → Invariant (moved w n y es)
+  move_keeps w n x y es j at h = move_on w w.requests w.points n x y es (λ m i q u e. e) (λ m ne. refl) j.log.unasked j.points j.steady j at h
 
   -- a node in a view sends: its view is declared, and the message is its own
   pub told : (w : World M) (n : ℕ) (x y : NodeState M) (es : List Effect) (to : ℕ) (b : Body) → NodeOk w n x → x.join.view.number ≢ 0 → y.join.view ≡ x.join.view → y.join.node ≡ x.join.node → MsgOk (moved w n y es) x.join.view n to b → Pooled (moved w n y es) (packet y to b)
@@ -272,6 +337,7 @@ module _ {M : Machine} where
     acks = λ k v q s. none_acked (λ (a b : ℕ). AckOk (moved w n x es) a b) k v q (subst (λ (l : List (ℕ × ℕ)). slice_get l k ≡ Some (v, q)) na s);
     owner = owner_moves w n x x es j at (same_lock x) (λ o k op i. k.members op n x at i);
     member = λ a z ne o k op i. k.members op n x at i;
+    points = quiet_points w n x es na;
   })
 
   pub stay_sends : (w : World M) (n : ℕ) (x : NodeState M) (to : ℕ) (b : Body) → Invariant w → w.nodes n ≡ Some x → Pooled (moved w n x (Send (packet x to b) ∷ [])) (packet x to b) → Invariant (absorb n (tells x to b) w)
@@ -279,13 +345,6 @@ module _ {M : Machine} where
 
   pub stay_keeps : (w : World M) (n : ℕ) (x : NodeState M) → Invariant w → w.nodes n ≡ Some x → Invariant (absorb n (nothing x) w)
   stay_keeps w n x j at = stay_tells w n x [] j at refl (none_told (λ (q : Packet). Pooled (moved w n x []) q))
-
-  -- what the moved node itself has
-  pub self_node : (w : World M) (n : ℕ) (y : NodeState M) (es : List Effect) (P : NodeState M → Type 0) → P y → (z : NodeState M) → (moved w n y es).nodes n ≡ Some z → P z
-  self_node w n y es P p z e = ⊎_elim
-      (λ (d : (n ≡ n) × (Some y ≡ Some z)). let g : y ≡ z = cc in subst P g p)
-      (λ (d : (n ≢ n) × (w.nodes n ≡ Some z)). absurd (d.0 refl))
-      (put_cases w.nodes n (Some y) n z e)
 
   pub reached_self : (w : World M) (n : ℕ) (y : NodeState M) (es : List Effect) (i k : ℕ) → i ≤ w.starts n → k ≤ done_of y → Reached (moved w n y es) n i k
   reached_self w n y es i k s d = record { started = s; done = λ z e same. self_node w n y es (λ (t : NodeState M). k ≤ done_of t) d z e }

@@ -1,5 +1,5 @@
 -- Offers are followed, and the state is pulled.
-use Rattle.std.proofs.Common.{◌≡◌, ◌≢◌, ℕ, zero, suc, ◌+◌, ◌<◌, ◌≤◌, true, false, not, ◌&&◌, List, [], ◌∷◌, ◌++◌, length, take, drop, Option, Some, None, nat_eq, cond, if◌then◌else◌, refl, sym, ap, ◌∙◌, subst, arith}
+use Rattle.std.proofs.Common.{◌≡◌, ◌≢◌, inl, ℕ, zero, suc, ◌+◌, ◌<◌, ◌≤◌, true, false, not, ◌&&◌, List, [], ◌∷◌, ◌++◌, length, take, drop, Option, Some, None, nat_eq, cond, if◌then◌else◌, refl, sym, ap, ◌∙◌, subst, arith}
 use Rattle.gum_messages.specs.declared.member.Member.{Member}
 use Rattle.gum_messages.specs.declared.view.View.{View}
 use Rattle.gum_messages.specs.Members.{is_locker}
@@ -21,7 +21,7 @@ use Rattle.cluster_rules.specs.Joins.{follows, gathers, joined, known_done, on_n
 use Rattle.cluster_rules.specs.Worlds.{World, absorb}
 use Rattle.cluster_laws.proofs.Inv.{AckOk, Has, Invariant, MemberOk, MsgOk, NodeOk, Pooled, WasReady, at_head, state_bytes, waits}
 use Rattle.cluster_laws.proofs.Stable.{Grown, grown_refl}
-use Rattle.cluster_laws.proofs.Moves.{move_keeps, moved, node_in, none_acked, one_told, reached_self, self_node, stay_keeps, stay_sends, told}
+use Rattle.cluster_laws.proofs.Moves.{quiet_points, move_keeps, moved, node_in, none_acked, one_told, reached_self, self_node, stay_keeps, stay_sends, told}
 use Rattle.cluster_laws.proofs.Applying.{and_true, done_at, next_outcome, eq_true, fold_next, locker_not, next_replica, not_true, replica_next, state_of}
 use Rattle.std.proofs.Math.Seq.{take-add}
 use Rattle.std.proofs.lemmas.List.{take_all}
@@ -117,7 +117,7 @@ module _ {M : Machine} where
       let h : NodeOk w n x = j.nodes n x at in
       let y : NodeState M = pulling x t of bs in
       let es : List Effect = Send (packet y (locker_at x) (Need offset)) ∷ [] in
-      let gr : Grown x y = record { inc = refl; done = omega arith; passed = omega arith; asks = omega arith; view = omega arith; waits = λ e q z. z } in
+      let gr : Grown x y = record { inc = refl; done = omega arith; passed = omega arith; asks = omega arith; view = omega arith; settled = λ k e. inl e; waits = λ e q z. z } in
       let shut : joining.is_open x.join ≡ false = unready_unopen x.join nr in
       let shut' : joining.is_open y.join ≡ false = unready_unopen y.join nt in
       let no_ready : joining.is_ready y.join ≡ true → ⊥ = λ e. locker_not (joining.is_ready y.join) e nt in
@@ -165,6 +165,7 @@ module _ {M : Machine} where
         });
         messages = one_told (λ (p : Packet). Pooled (moved w n y es) p) (packet y (locker_at x) (Need offset)) (told w n x y es (locker_at x) (Need offset) h nz refl refl tt);
         acks = none_acked (λ (a b : ℕ). AckOk (moved w n y es) a b);
+        points = quiet_points w n y es refl;
         owner = λ o. absurd (no_ready o.ready);
         member = λ a z ne o k op i. let old : MemberOk w.log z.core.lock n x = k.members op n x at i in record { near = old.near; free = old.free; heads = old.heads };
       })

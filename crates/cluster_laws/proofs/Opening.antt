@@ -18,10 +18,10 @@ use Rattle.cluster_rules.specs.Packets.{Body, Packet, Ready, OpenView}
 use Rattle.cluster_rules.specs.Nodes.{Acked, Effect, Halted, NodeState, Opened, Out, Send, after, asks, becomes, done_of, locker_at, nothing, packet, to_each}
 use Rattle.cluster_rules.specs.Updates.{begins, opens}
 use Rattle.cluster_rules.specs.Joins.{marks_ready, on_open_view, on_ready, opens_view}
-use Rattle.cluster_rules.specs.Worlds.{World, absorb, acked, put, sent}
+use Rattle.cluster_rules.specs.Worlds.{Point, World, absorb, acked, answered, put, sent}
 use Rattle.cluster_laws.proofs.Inv.{AckOk, Has, Invariant, MemberOk, MsgOk, NodeOk, Owner, OwnerOk, Pooled, WasReady, at_head, waits}
 use Rattle.cluster_laws.proofs.Stable.{Ext, Grown, grown_refl, pooled, was_ready}
-use Rattle.cluster_laws.proofs.Moves.{at_self, ext_absorb, move_keeps, moved, node_in, none_acked, none_told, owner_moves, put_cases, stay_keeps, stay_sends, stay_tells, told}
+use Rattle.cluster_laws.proofs.Moves.{quiet_points, at_self, ext_absorb, move_keeps, moved, node_in, none_acked, none_told, owner_moves, put_cases, stay_keeps, stay_sends, stay_tells, told}
 use Rattle.cluster_laws.proofs.Applying.{and_true, length_some, eq_true, locker_not}
 use Rattle.view_reconcile.proofs.Cases.{opened_cases, readied_cases}
 use Rattle.view_reconcile.proofs.Marking.{each_counts, marked_says}
@@ -51,6 +51,10 @@ acked_append (Acked v k ∷ a) b = ap (λ (l : List (ℕ × ℕ)). (v, k) ∷ l)
 acked_append (Opened v ∷ a) b = acked_append a b
 acked_append (Halted ∷ a) b = acked_append a b
 
+pub answered_append : (n i : ℕ) (a b : List (ℕ × ℕ)) → answered n i (a ++ b) ≡ answered n i a ++ answered n i b
+answered_append n i [] b = refl
+answered_append n i (x ∷ a) b = ap (λ (l : List Point). record { node = n; inc = i; place = x.1 } ∷ l) (answered_append n i a b)
+
 or_true : (a b : Bool) → (a || b) ≡ true → (a ≡ true) ⊎ (b ≡ true)
 or_true true b e = inl refl
 or_true false b e = inr e
@@ -63,7 +67,8 @@ module _ {M : Machine} where
   two_moves w n y es o =
       let p : (w.pool ++ sent es) ++ sent o.effects ≡ w.pool ++ sent (es ++ o.effects) = append_assoc w.pool (sent es) (sent o.effects) ∙ ap (λ (l : List Packet). w.pool ++ l) (sym (sent_append es o.effects)) in
       let a : (w.acks ++ acked es) ++ acked o.effects ≡ w.acks ++ acked (es ++ o.effects) = append_assoc w.acks (acked es) (acked o.effects) ∙ ap (λ (l : List (ℕ × ℕ)). w.acks ++ l) (sym (acked_append es o.effects)) in
-      λ i. record w { nodes = put_put w.nodes n (Some y) o.node i; pool = p i; acks = a i }
+      let b : (w.points ++ answered n (w.starts n) (acked es)) ++ answered n (w.starts n) (acked o.effects) ≡ w.points ++ answered n (w.starts n) (acked (es ++ o.effects)) = append_assoc w.points (answered n (w.starts n) (acked es)) (answered n (w.starts n) (acked o.effects)) ∙ ap (λ (l : List Point). w.points ++ l) (sym (answered_append n (w.starts n) (acked es) (acked o.effects)) ∙ ap (answered n (w.starts n)) (sym (acked_append es o.effects))) in
+      λ i. record w { nodes = put_put w.nodes n (Some y) o.node i; pool = p i; acks = a i; points = b i }
 
   pub moved_there : (w : World M) (n : ℕ) (y : NodeState M) (es : List Effect) → (moved w n y es).nodes n ≡ Some y
   moved_there w n y es = there_put w.nodes n (Some y)
@@ -103,7 +108,7 @@ module _ {M : Machine} where
   open_keeps w n x es j at rd shut us were na ms =
       let h : NodeOk w n x = j.nodes n x at in
       let y : NodeState M = opened_node x in
-      let gr : Grown x y = record { inc = refl; done = omega arith; passed = omega arith; asks = omega arith; view = omega arith; waits = λ e q z. z } in
+      let gr : Grown x y = record { inc = refl; done = omega arith; passed = omega arith; asks = omega arith; view = omega arith; settled = λ k e. inl e; waits = λ e q z. z } in
       let not_open : joining.is_open x.join ≡ true → ⊥ = λ e. locker_not (joining.is_open x.join) e shut in
       let not_unready : joining.is_ready x.join ≡ false → ⊥ = λ e. locker_not (joining.is_ready x.join) rd e in
       move_keeps w n x y es j at (record {
@@ -149,6 +154,7 @@ module _ {M : Machine} where
         });
         messages = ms;
         acks = λ k v p s. none_acked (λ (a b : ℕ). AckOk (moved w n y es) a b) k v p (subst (λ (l : List (ℕ × ℕ)). slice_get l k ≡ Some (v, p)) na s);
+        points = quiet_points w n y es na;
         owner = λ o.
             let ox : Owner w n x = record { runs = at; ready = rd; locker = o.locker; held = o.held } in
             let k : OwnerOk w n x = j.owner n x ox in
@@ -208,7 +214,7 @@ module _ {M : Machine} where
       let p : sent (es ++ as_) ≡ sent (es ++ (Acked v k ∷ as_)) = sent_append es as_ ∙ sym (sent_append es (Acked v k ∷ as_)) in
       let a : (v, k) ∷ acked (es ++ as_) ≡ acked (es ++ (Acked v k ∷ as_)) =
       ap (λ (l : List (ℕ × ℕ)). (v, k) ∷ l) (acked_append es as_ ∙ ap (λ (l : List (ℕ × ℕ)). l ++ acked as_) e) ∙ sym (acked_append es (Acked v k ∷ as_) ∙ ap (λ (l : List (ℕ × ℕ)). l ++ ((v, k) ∷ acked as_)) e) in
-      λ i. record w { nodes = put w.nodes n o; pool = w.pool ++ p i; acks = w.acks ++ a i }
+      λ i. record w { nodes = put w.nodes n o; pool = w.pool ++ p i; acks = w.acks ++ a i; points = w.points ++ answered n (w.starts n) (a i) }
 
   -- a message of a node, as its world already has it
   pub told_here : (w : World M) (n : ℕ) (x : NodeState M) (to : ℕ) (b : Body) → NodeOk w n x → x.join.view.number ≢ 0 → MsgOk w x.join.view n to b → Pooled w (packet x to b)
@@ -218,7 +224,7 @@ module _ {M : Machine} where
   pooled_on w w' p j e = pooled w w' p e (λ r s. (j.log.asked r s).1) (λ v c f. (j.log.counts v c f).0)
 
   pub opened_grown : (x : NodeState M) → Grown x (opened_node x)
-  opened_grown x = record { inc = refl; done = omega arith; passed = omega arith; asks = omega arith; view = omega arith; waits = λ e q z. z }
+  opened_grown x = record { inc = refl; done = omega arith; passed = omega arith; asks = omega arith; view = omega arith; settled = λ k e. inl e; waits = λ e q z. z }
 
   -- it opens, and sends what its world has already
   pub opens_first : (w : World M) (n : ℕ) (x : NodeState M) (es : List Effect) → Invariant w → w.nodes n ≡ Some x → joining.is_ready x.join ≡ true → joining.is_open x.join ≡ false → x.settled ≡ None → AllWere w x → acked es ≡ [] → ((k : ℕ) (p : Packet) → slice_get (sent es) k ≡ Some p → Pooled w p) → Invariant (moved w n (opened_node x) es)
@@ -289,7 +295,7 @@ module _ {M : Machine} where
   marked_keeps w n x from j at was =
       let h : NodeOk w n x = j.nodes n x at in
       let y : NodeState M = marked_node x from in
-      let gr : Grown x y = record { inc = refl; done = omega arith; passed = omega arith; asks = omega arith; view = omega arith; waits = λ e q z. z } in
+      let gr : Grown x y = record { inc = refl; done = omega arith; passed = omega arith; asks = omega arith; view = omega arith; settled = λ k e. inl e; waits = λ e q z. z } in
       move_keeps w n x y [] j at (record {
         grown = gr;
         node = node_in w n x y [] j at gr (record {
@@ -336,6 +342,7 @@ module _ {M : Machine} where
         });
         messages = none_told (λ (p : Packet). Pooled (moved w n y []) p);
         acks = none_acked (λ (a b : ℕ). AckOk (moved w n y []) a b);
+        points = quiet_points w n y [] refl;
         owner = owner_moves w n x y [] j at (record { ready = refl; open_ = refl; node = refl; view = refl; lock = refl; members = refl; greatest = refl; done = refl }) (λ o k op i. let old : MemberOk w.log x.core.lock n x = k.members op n x at i in record { near = old.near; free = old.free; heads = old.heads });
         member = λ a z ne o k op i. let old : MemberOk w.log z.core.lock n x = k.members op n x at i in record { near = old.near; free = old.free; heads = old.heads };
       })

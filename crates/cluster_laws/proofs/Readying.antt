@@ -1,5 +1,5 @@
 -- A node becomes ready.
-use Rattle.std.proofs.Common.{◌≡◌, ◌≢◌, ⊎_elim, ℕ, ◌+◌, ◌-◌, ◌<◌, ◌≤◌, Bool, true, false, List, [], length, Option, Some, None, cond, if◌then◌else◌, slice_get, refl, sym, ap, ◌∙◌, subst, arith}
+use Rattle.std.proofs.Common.{◌≡◌, ◌≢◌, ◌⊎◌, inl, inr, ⊎_elim, ℕ, ◌+◌, ◌-◌, ◌<◌, ◌≤◌, Bool, true, false, List, [], length, Option, Some, None, cond, if◌then◌else◌, slice_get, refl, sym, ap, ◌∙◌, subst, arith}
 use Rattle.std.proofs.lemmas.Bool.{cases_lt}
 use Rattle.gum_messages.specs.Members.{inc_of}
 use Rattle.gum_messages.specs.Places.{at_place}
@@ -17,7 +17,7 @@ use Rattle.cluster_rules.specs.Joins.{shows}
 use Rattle.cluster_rules.specs.Worlds.{World, acked, sent}
 use Rattle.cluster_laws.proofs.Inv.{AckOk, Has, Invariant, MemberOk, NodeOk, Owner, OwnerOk, Pooled, Stands, at_head, waits}
 use Rattle.cluster_laws.proofs.Stable.{Grown}
-use Rattle.cluster_laws.proofs.Moves.{move_keeps, moved, node_in, none_acked}
+use Rattle.cluster_laws.proofs.Moves.{quiet_points, move_keeps, moved, node_in, none_acked}
 use Rattle.cluster_laws.proofs.Applying.{has_is_head, is_head_has, locker_not}
 
 pub if_none : {A : Type 0} (b : Bool) (a : A) (o : Option A) → cond b (Some a) o ≡ None → (b ≡ false) × (o ≡ None)
@@ -174,6 +174,7 @@ module _ {M : Machine} where
     passed = omega arith;
     asks = omega arith;
     view = omega arith;
+    settled = λ p e. if_cases (λ (t : Option ℕ). t ≡ Some p → (x.settled ≡ Some p) ⊎ (done_of x ≤ p)) (shows last x) (Some s.done) x.settled (λ i q. let up : done_of x ≤ s.done = (j.nodes n x at).unready s.done k.counted k.unready in let dp : s.done ≡ p = cc in inr (omega arith)) (λ i q. inl q) e;
     waits = λ a b c. (ready_waits x s last out c).0;
   }
 
@@ -193,6 +194,7 @@ module _ {M : Machine} where
         messages = ms ok;
         acks = λ k v p q. none_acked (λ (a b : ℕ). AckOk (moved w n z (es z)) a b) k v p (subst (λ (l : List (ℕ × ℕ)). slice_get l k ≡ Some (v, p)) na q);
         owner = ow;
+        points = quiet_points w n z (es z) na;
         member = λ a t ne o ko op i. let mo : MemberOk w.log t.core.lock n x = ko.members op n x at i in
             let up : done_of x ≤ s.done = gr.done in
             record {

@@ -17,8 +17,8 @@ use Rattle.cluster_rules.specs.Nodes.{NodeState, done_of, nothing}
 use Rattle.cluster_rules.specs.Joins.{entered, takes_view}
 use Rattle.cluster_rules.specs.Worlds.{Log, World, absorb, claimed, found_log, put, with_log}
 use Rattle.cluster_laws.proofs.Inv.{AckOk, Entered, Invariant, LogOk, MemberOk, NodeOk, Pooled}
-use Rattle.cluster_laws.proofs.Stable.{AskedOnly, Ext, Grown, all_reached, asked_, entered_, grown_refl, pooled, reached, was_ready}
-use Rattle.cluster_laws.proofs.Moves.{move_keeps, moved, node_in, none_acked, none_told, put_cases}
+use Rattle.cluster_laws.proofs.Stable.{AskedOnly, Ext, Grown, all_reached, asked_, entered_, grown_refl, past, pooled, reached, was_ready}
+use Rattle.cluster_laws.proofs.Moves.{quiet_points, move_keeps, moved, node_in, none_acked, none_told, put_cases}
 use Rattle.cluster_laws.proofs.Applying.{locker_not}
 use Rattle.std.proofs.lemmas.List.{length-replicate}
 use Rattle.view_reconcile.proofs.Marking.{none_marked}
@@ -40,7 +40,7 @@ module _ {M : Machine} where
   enter_keeps w n x v j at up decl mem =
       let h : NodeOk w n x = j.nodes n x at in
       let y : NodeState M = taken_view v x in
-      let gr : Grown x y = record { inc = refl; done = omega arith; passed = omega arith; asks = omega arith; view = omega arith; waits = λ e q z. z } in
+      let gr : Grown x y = record { inc = refl; done = omega arith; passed = omega arith; asks = omega arith; view = omega arith; settled = λ k e. inl e; waits = λ e q z. z } in
       let unmarked : (m : ℕ) → joining.is_marked y.join m ≡ false = λ m. none_marked x.join v stage.Waiting (length v.members) m in
       move_keeps w n x y [] j at (record {
         grown = gr;
@@ -85,6 +85,7 @@ module _ {M : Machine} where
         });
         messages = none_told (λ (p : Packet). Pooled (moved w n y []) p);
         acks = none_acked (λ (a b : ℕ). AckOk (moved w n y []) a b);
+        points = quiet_points w n y [] refl;
         owner = λ o. absurd (let c : joining.is_ready y.join ≡ true = o.ready in cc);
         member = λ a z ne o k op i. let old : MemberOk w.log z.core.lock n x = k.members op n x at i in record { near = old.near; free = old.free; heads = old.heads };
       })
@@ -97,8 +98,8 @@ module _ {M : Machine} where
       let dv = j.log.doubt_view r mb in
       let v : View = dv.0 in
       let num : v.number ≡ w.log.doubtful_view = j.chain.chain.numbered w.log.doubtful_view v dv.1 in
-      let w' : World M = grown_world w r v.number w.nodes w.pool w.acks in
-      let gs : Grows w r v w.nodes w.pool w.acks = record {
+      let w' : World M = grown_world w r v.number w.nodes w.pool w.acks w.points in
+      let gs : Grows w r v w.nodes w.pool w.acks w.points = record {
         ext = record { log = longer_plus M w.log r v.number; chain = λ u t e. e; starts = λ n. omega arith; requests = λ m i q u e. e; nodes = λ n y at le. (y, at, grown_refl y) };
         place = d.0;
         view = ap (view_in w.chain) num ∙ dv.1;
@@ -120,11 +121,13 @@ module _ {M : Machine} where
       } in
       let whole : Invariant w' = record {
         chain = record { chain = j.chain.chain; started = j.chain.started; locker = j.chain.locker };
-        log = log_grows w r v w.nodes w.pool w.acks j.log gs nw;
-        nodes = λ m z at. node_grows w r v w.nodes w.pool w.acks m z j.log gs at (j.nodes m z at);
+        log = log_grows w r v w.nodes w.pool w.acks w.points j.log gs nw;
+        nodes = λ m z at. node_grows w r v w.nodes w.pool w.acks w.points m z j.log gs at (j.nodes m z at);
         owner = λ m z o. absurd (let q : w.log.doubtful ≡ None = (j.owner m z (record { runs = o.runs; ready = o.ready; locker = o.locker; held = o.held })).sure in let e : ◌≡◌ {A = Option Entry} (Some r) None = sym mb ∙ q in cc);
         pool = λ i p s. pooled w w' p gs.ext (λ r s. (j.log.asked r s).1) (λ v c f. (j.log.counts v c f).0) (j.pool i p s);
-        acks = λ a u k s. ack_grows w r v w.nodes w.pool w.acks u k gs (j.acks a u k s);
+        points = λ a p s. past w w' p.node p.inc p.place gs.ext (j.points a p s);
+        steady = j.steady;
+        acks = λ a u k s. ack_grows w r v w.nodes w.pool w.acks w.points u k gs (j.acks a u k s);
       } in
       subst (λ (k : ℕ). Invariant (with_log (plus w.log r k) w)) num whole
 
@@ -293,6 +296,8 @@ module _ {M : Machine} where
         };
         owner = λ m z o. absurd (let a = (j.nodes m z o.runs).ready_state o.ready in omega (arith, o.held, (j.log.counts z.join.view.number a.1 a.2).1, k.higher));
         pool = λ i p s. pooled w w' p e ao (λ v c f. (j.log.counts v c f).0) (j.pool i p s);
+        points = λ a p s. past w w' p.node p.inc p.place e (j.points a p s);
+        steady = j.steady;
         acks = λ a u i s. let g = j.acks a u i s in record {
           view = g.view;
           declared = g.declared;

@@ -1,5 +1,5 @@
 -- What once true stays true.
-use Rattle.std.proofs.Common.{◌≡◌, ◌≢◌, ⊎_elim, ℕ, ◌+◌, ◌<◌, ◌≤◌, List, [], length, take, drop, Some, refl, sym, ap, ◌∙◌, subst, arith}
+use Rattle.std.proofs.Common.{◌≡◌, ◌≢◌, ◌⊎◌, inl, ⊎_elim, ℕ, ◌+◌, ◌<◌, ◌≤◌, List, [], length, take, drop, Some, refl, sym, ap, ◌∙◌, subst, arith}
 use Rattle.std.proofs.lemmas.Bool.{cases_lt}
 use Rattle.gum_messages.specs.declared.member.Member.{Member}
 use Rattle.gum_messages.specs.declared.view.View.{View}
@@ -13,7 +13,7 @@ use Rattle.cluster_rules.specs.Machines.{Machine, registry_at}
 use Rattle.cluster_rules.specs.Packets.{Body, Packet, Ask, Granted, Apply, Applied, Release, Offer, Need, Piece, Ready, OpenView}
 use Rattle.cluster_rules.specs.Nodes.{NodeState, done_of}
 use Rattle.cluster_rules.specs.Worlds.{Log, World}
-use Rattle.cluster_laws.proofs.Inv.{AllReached, Asked, Clear, Entered, Finished, LoggedIn, MsgOk, NotBefore, Pooled, Reached, Requested, Stands, WasReady, greatest_asked, state_bytes, waits}
+use Rattle.cluster_laws.proofs.Inv.{AllReached, Asked, Clear, Entered, Finished, LoggedIn, MsgOk, NotBefore, Past, Pooled, Reached, Requested, Stands, WasReady, greatest_asked, state_bytes, waits}
 
 -- what the log may become
 pub record Longer (M : Machine) (l l' : Log) : Type 0 where
@@ -35,6 +35,7 @@ module _ {M : Machine} where
     pub passed : x.core.passed ≤ y.core.passed
     pub asks : greatest_asked x ≤ greatest_asked y
     pub view : x.join.view.number ≤ y.join.view.number
+    pub settled : (k : ℕ) → y.settled ≡ Some k → (x.settled ≡ Some k) ⊎ (done_of x ≤ k)
     pub waits : x.core.passed ≡ y.core.passed → x.core.queue ≢ [] → waits y → waits x
 
   -- what a world may become
@@ -46,7 +47,7 @@ module _ {M : Machine} where
     pub nodes : (n : ℕ) (y : NodeState M) → w'.nodes n ≡ Some y → y.join.inc ≤ w.starts n → (x : NodeState M) × (w.nodes n ≡ Some x) × Grown x y
 
   pub grown_refl : (x : NodeState M) → Grown x x
-  grown_refl x = record { inc = refl; done = omega arith; passed = omega arith; asks = omega arith; view = omega arith; waits = λ e q h. h }
+  grown_refl x = record { inc = refl; done = omega arith; passed = omega arith; asks = omega arith; view = omega arith; settled = λ k e. inl e; waits = λ e q h. h }
 
   pub reached : (w w' : World M) (n i k : ℕ) → Ext w w' → Reached w n i k → Reached w' n i k
   reached w w' n i k e h = record {
@@ -62,6 +63,17 @@ module _ {M : Machine} where
   before w w' n i y e s at same =
       let g : (x : NodeState M) × (w.nodes n ≡ Some x) × Grown x y = e.nodes n y at (omega arith) in
       (g.0, g.1, g.2.inc ∙ same, g.2)
+
+  pub past : (w w' : World M) (n i d : ℕ) → Ext w w' → Past w n i d → Past w' n i d
+  past w w' n i d e h = record {
+    started = omega (arith, e.starts n, h.started);
+    done = λ y at same.
+        let g : (x : NodeState M) × (w.nodes n ≡ Some x) × (x.join.inc ≡ i) × Grown x y = before w w' n i y e h.started at same in
+        omega (arith, h.done g.0 g.1 g.2, g.3.done);
+    settled = λ y k at same f.
+        let g : (x : NodeState M) × (w.nodes n ≡ Some x) × (x.join.inc ≡ i) × Grown x y = before w w' n i y e h.started at same in
+        ⊎_elim (λ (a : g.0.settled ≡ Some k). h.settled g.0 k g.1 g.2 a) (λ (a : done_of g.0 ≤ k). omega (arith, h.done g.0 g.1 g.2, a)) (g.3.settled k f);
+  }
 
   pub finished : (w w' : World M) (n i q : ℕ) → Ext w w' → Finished w n i q → Finished w' n i q
   finished w w' n i q e h = record {

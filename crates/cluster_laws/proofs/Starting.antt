@@ -13,7 +13,7 @@ use Rattle.cluster_rules.specs.Machines.{Machine}
 use Rattle.cluster_rules.specs.Nodes.{NodeState, fresh}
 use Rattle.cluster_rules.specs.Worlds.{World, may_declare, put, was_started}
 use Rattle.cluster_laws.proofs.Inv.{Invariant, NodeOk, Owner, OwnerOk}
-use Rattle.cluster_laws.proofs.Stable.{AskedOnly, Ext, all_reached, asked_, entered_, grown_refl, longer_refl, pooled, reached, was_ready}
+use Rattle.cluster_laws.proofs.Stable.{AskedOnly, Ext, all_reached, asked_, entered_, grown_refl, longer_refl, past, pooled, reached, was_ready}
 use Rattle.cluster_laws.proofs.Moves.{at_self, put_cases}
 use Rattle.cluster_laws.proofs.Applying.{and_true, eq_true, lt_true}
 use Rattle.std.specs.List.{list_all}
@@ -204,6 +204,8 @@ module _ {M : Machine} where
             })
             (put_cases w.nodes n (Some y) m z o.runs);
         pool = λ i p s. pooled w w' p e ao (λ v c f. (j.log.counts v c f).0) (j.pool i p s);
+        points = λ a p s. past w w' p.node p.inc p.place e (j.points a p s);
+        steady = j.steady;
         acks = λ a v i s. let g = j.acks a v i s in record { view = g.view; declared = g.declared; place = g.place; later = g.later; members = all_reached w w' g.view.members i e g.members };
       }
 
@@ -300,5 +302,7 @@ module _ {M : Machine} where
             let k : OwnerOk w m z = j.owner m z (record { runs = o.runs; ready = o.ready; locker = o.locker; held = o.held }) in
             record { sure = k.sure; all_done = k.all_done; closed = k.closed; greatest = k.greatest; members = k.members };
         pool = λ i p s. pooled w w' p e ao (λ k c f. (j.log.counts k c f).0) (j.pool i p s);
+        points = λ a p s. past w w' p.node p.inc p.place e (j.points a p s);
+        steady = j.steady;
         acks = λ b k i s. let h = j.acks b k i s in record { view = h.view; declared = old k h.view h.declared; place = h.place; later = h.later; members = all_reached w w' h.view.members i e h.members };
       }

@@ -10,7 +10,7 @@ use Rattle.cluster_rules.specs.Machines.{Machine}
 use Rattle.cluster_rules.specs.Nodes.{NodeState, Replica, done_of, halts}
 use Rattle.cluster_rules.specs.Worlds.{World, absorb, put, stopped, with_log}
 use Rattle.cluster_laws.proofs.Inv.{Asked, Entered, Has, Invariant, LogOk, NodeOk, NotBefore, Owner, OwnerOk, Requested, Stands, at_head, waits}
-use Rattle.cluster_laws.proofs.Stable.{AskedOnly, Ext, all_reached, asked_, entered_, grown_refl, pooled, reached, was_ready}
+use Rattle.cluster_laws.proofs.Stable.{AskedOnly, Ext, all_reached, asked_, entered_, grown_refl, past, pooled, reached, was_ready}
 use Rattle.cluster_laws.proofs.Moves.{put_cases}
 use Rattle.cluster_laws.proofs.Appending.{Fresh, append_grows, append_new, owner_unique}
 
@@ -138,6 +138,8 @@ module _ {M : Machine} where
               members = λ op a b at i. let q = g.members op a b (k.fewer a b at) i in record { near = q.near; free = q.free; heads = λ r wt s. q.heads r wt (record { at = s.at }) };
             };
         pool = λ i p s. pooled w w' p e ao (λ v c f. (j.log.counts v c f).0) (j.pool i p s);
+        points = λ a p s. past w w' p.node p.inc p.place e (j.points a p s);
+        steady = j.steady;
         acks = λ a v i s. let g = j.acks a v i s in record { view = g.view; declared = g.declared; place = g.place; later = g.later; members = all_reached w w' g.view.members i e g.members };
       }
 
@@ -167,7 +169,7 @@ module _ {M : Machine} where
 
   -- a node that halts tells nothing that is sent
   pub halt_same : (w : World M) (n : ℕ) → absorb n halts w ≡ stopped n w
-  halt_same w n = λ i. record w { nodes = put w.nodes n None; pool = append-nil w.pool i; acks = append-nil w.acks i }
+  halt_same w n = λ i. record w { nodes = put w.nodes n None; pool = append-nil w.pool i; acks = append-nil w.acks i; points = append-nil w.points i }
 
   pub halt_keeps : (w : World M) (n : ℕ) → Invariant (stopped n w) → Invariant (absorb n halts w)
   halt_keeps w n j = subst (λ (v : World M). Invariant v) (sym (halt_same w n)) j

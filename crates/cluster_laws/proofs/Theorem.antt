@@ -1,5 +1,5 @@
 -- Every run is safe, and keeps what was acknowledged.
-use Rattle.std.proofs.Common.{◌≡◌, ◌≢◌, ℕ, ◌+◌, ◌-◌, ◌<◌, ◌≤◌, true, List, [], ◌∷◌, length, Option, Some, None, nat_eq, nat_lt, slice_get, refl, sym, ap, ◌∙◌, subst, arith}
+use Rattle.std.proofs.Common.{◌≡◌, ◌≢◌, ℕ, ◌+◌, ◌-◌, ◌<◌, ◌≤◌, true, List, [], ◌∷◌, length, Option, Some, None, nat_eq, nat_lt, if◌then◌else◌, slice_get, refl, sym, ap, ◌∙◌, subst, arith}
 use Rattle.gum_messages.specs.declared.view.View.{View}
 use Rattle.gum_messages.specs.Members.{inc_of}
 use Rattle.gum_messages.specs.Places.{at_place}
@@ -11,12 +11,12 @@ use Rattle.view_reconcile.specs.Joining as joining
 use Rattle.view_reconcile.specs.Chains.{view_in}
 use Rattle.cluster_rules.specs.Machines.{Machine, IsMachine}
 use Rattle.cluster_rules.specs.Packets.{Body, Packet, Ask, Granted, Apply, Applied, Release, Offer, Need, Piece, Ready, OpenView}
-use Rattle.cluster_rules.specs.Nodes.{NodeState, done_of, fresh, members_of, number_of}
+use Rattle.cluster_rules.specs.Nodes.{NodeState, done_of, fresh, members_of, nothing, number_of}
 use Rattle.cluster_rules.specs.Updates.{Answer, Logged, may_submit, submit}
 use Rattle.cluster_rules.specs.Receiving.{checkpoint, clock, receive, tick}
 use Rattle.cluster_rules.specs.Receiving as receiving
-use Rattle.cluster_rules.specs.Worlds.{Checkpoint, Clock, Declare, Deliver, Die, DieInDeliver, DieInInstall, Event, Install, Start, Submit, Tick, World, absorb, at_node, deliver, die_in_deliver, die_in_install, happens, install, leave, logs, may_declare, noted, opening, put, run, stopped, with_log, written}
-use Rattle.cluster_rules.specs.Promises.{Kept, Safe}
+use Rattle.cluster_rules.specs.Worlds.{Checkpoint, Clock, Declare, Deliver, Die, DieInDeliver, DieInInstall, Event, Install, Read, Start, Submit, Tick, World, absorb, at_node, deliver, die_in_deliver, die_in_install, happens, install, leave, logs, may_declare, noted, opening, put, reads, run, stopped, with_log, written}
+use Rattle.cluster_rules.specs.Promises.{Kept, Safe, Steady}
 use Rattle.cluster_laws.proofs.Inv.{AckOk, AllReached, Invariant, MsgOk, NodeOk, Pooled}
 use Rattle.cluster_laws.proofs.Moves.{none_acked, none_told, stay_keeps}
 use Rattle.cluster_laws.proofs.Applying.{and_true, done_at, eq_true, lt_true, state_of}
@@ -30,7 +30,7 @@ use Rattle.cluster_laws.proofs.Asking.{Dies, Keeps, ask_dies, on_ask_keeps}
 use Rattle.cluster_laws.proofs.Stopping.{stop_keeps}
 use Rattle.cluster_laws.proofs.Installing.{die_in_install_keeps, install_keeps}
 use Rattle.cluster_laws.proofs.Starting.{declare_keeps, start_keeps, started_world}
-use Rattle.cluster_laws.proofs.Ticking.{checkpoint_keeps, clock_keeps, tick_keeps}
+use Rattle.cluster_laws.proofs.Ticking.{checkpoint_keeps, clock_keeps, read_keeps, tick_keeps}
 use Rattle.cluster_laws.proofs.Lockers.{Lockers, checkpoint_stays, install_lockers, lockers_absorb, lockers_stay, receive_stays, stays_same, submit_stays}
 
 -- what stands at a place stands in the list
@@ -104,6 +104,7 @@ module _ {M : Machine} where
       (λ p some. option_cases (λ (u : World M). Invariant u) (w.nodes p.to) w (λ x. absorb p.to (receive x p w.log.held answer).out (logs (number_of x) (receive x p w.log.held answer) w)) (λ none. j)
       (λ x at. receive_keeps law w p.to x p answer j lo at (j.pool (k - 1) p (at_get w.pool k p some)) refl))
   happens_keeps law w (Submit n u) j lo = at_keeps (λ (v : World M). Invariant v) w n (λ x. absorb n (submit x u) (noted n x u w)) j (λ x at. submit_keeps w n x u j at)
+  happens_keeps law w (Read n) j lo = at_keeps (λ (v : World M). Invariant v) w n (λ x. if joining.is_open x.join then absorb n (nothing x) (reads n x w) else w) j (λ x at. if_cases (λ (v : World M). Invariant v) (joining.is_open x.join) _ _ (λ op. read_keeps w n x j at op) (λ op. j))
   happens_keeps law w (Tick n) j lo = at_keeps (λ (v : World M). Invariant v) w n (λ x. absorb n (tick x) w) j (λ x at. tick_keeps law w n x j at (lo n x at))
   happens_keeps law w (Clock n stamp) j lo = at_keeps (λ (v : World M). Invariant v) w n (λ x. absorb n (clock x stamp) w) j (λ x at. clock_keeps w n x stamp j at)
   happens_keeps law w (Checkpoint n good) j lo = at_keeps (λ (v : World M). Invariant v) w n (λ x. absorb n (checkpoint x w.log.held good) w) j (λ x at. checkpoint_keeps w n x good j at)
@@ -132,6 +133,7 @@ module _ {M : Machine} where
       (λ p some. option_cases (λ (u : World M). Lockers u) (w.nodes p.to) w (λ x. absorb p.to (receive x p w.log.held answer).out (logs (number_of x) (receive x p w.log.held answer) w)) (λ none. lo)
       (λ x at. lockers_stay w (absorb p.to (receive x p w.log.held answer).out (logs (number_of x) (receive x p w.log.held answer) w)) p.to x (receive x p w.log.held answer).out.node lo at refl (receive_stays x p w.log.held answer)))
   lockers_keep w (Submit n u) lo = at_keeps (λ (v : World M). Lockers v) w n (λ x. absorb n (submit x u) (noted n x u w)) lo (λ x at. lockers_stay w (absorb n (submit x u) (noted n x u w)) n x (submit x u).node lo at (ap (λ (f : ℕ → Option (NodeState M)). put f n (submit x u).node) (noted_nodes w n x u)) (submit_stays x u))
+  lockers_keep w (Read n) lo = at_keeps (λ (v : World M). Lockers v) w n (λ x. if joining.is_open x.join then absorb n (nothing x) (reads n x w) else w) lo (λ x at. if_cases (λ (v : World M). Lockers v) (joining.is_open x.join) _ _ (λ op. lockers_stay w (absorb n (nothing x) (reads n x w)) n x (Some x) lo at refl (stays_same x x refl)) (λ op. lo))
   lockers_keep w (Tick n) lo = at_keeps (λ (v : World M). Lockers v) w n (λ x. absorb n (tick x) w) lo (λ x at. lockers_stay w (absorb n (tick x) w) n x (Some x) lo at refl (stays_same x x refl))
   lockers_keep w (Clock n stamp) lo = at_keeps (λ (v : World M). Lockers v) w n (λ x. absorb n (clock x stamp) w) lo (λ x at. lockers_stay w (absorb n (clock x stamp) w) n x (clock x stamp).node lo at refl (stays_same x (record x { stamp = stamp }) refl))
   lockers_keep w (Checkpoint n good) lo = at_keeps (λ (v : World M). Lockers v) w n (λ x. absorb n (checkpoint x w.log.held good) w) lo (λ x at. lockers_stay w (absorb n (checkpoint x w.log.held good) w) n x (checkpoint x w.log.held good).node lo at refl (checkpoint_stays x w.log.held good))
@@ -182,6 +184,8 @@ module _ (M : Machine) where
     owner = λ n x o. absurd (let e : ◌≡◌ {A = Option (NodeState M)} None (Some x) = o.runs in cc);
     pool = λ k p e. none_told (λ (p : Packet). Pooled (opening M cap) p) k p e;
     acks = λ a v k e. none_acked (λ (v k : ℕ). AckOk (opening M cap) v k) a v k e;
+    points = λ a p e. absurd (cc);
+    steady = λ a b p q e. absurd (cc);
   }
     where
       none_in : {A : Type 0} (k : ℕ) (a : A) → at_place [] k ≡ Some a → ⊥
@@ -221,9 +225,15 @@ module _ (M : Machine) where
         (s.0, s.1, omega (arith, d, done_at x s.0 s.1));
   }
 
+  pub steady : (w : World M) → Invariant w → Steady w
+  steady w j = record { rises = λ a b p q ea eb le nd ic. j.steady (a - 1) (b - 1) p q (at_get w.points a p ea) (at_get w.points b q eb) (omega arith) nd ic }
+
   -- The theorem
   pub all_safe : IsMachine M → (cap : ℕ) (es : List Event) → Safe (run es (opening M cap))
   all_safe law cap es = safe (run es (opening M cap)) (run_keeps law es (opening M cap) (opening_ok cap) (λ n x e. absurd (cc)))
 
   pub all_kept : IsMachine M → (cap : ℕ) (es : List Event) → Kept (run es (opening M cap))
   all_kept law cap es = kept (run es (opening M cap)) (run_keeps law es (opening M cap) (opening_ok cap) (λ n x e. absurd (cc)))
+
+  pub all_steady : IsMachine M → (cap : ℕ) (es : List Event) → Steady (run es (opening M cap))
+  all_steady law cap es = steady (run es (opening M cap)) (run_keeps law es (opening M cap) (opening_ok cap) (λ n x e. absurd (cc)))

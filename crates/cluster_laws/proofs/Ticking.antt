@@ -1,10 +1,10 @@
 -- A tick, a clock and a checkpoint.
-use Rattle.std.proofs.Common.{◌≡◌, ◌≢◌, ⊎_elim, ℕ, ◌+◌, Bool, true, false, not, ◌&&◌, List, [], ◌∷◌, ◌++◌, take, Option, Some, None, nat_lt, if◌then◌else◌, slice_get, refl, sym, ap, ◌∙◌, subst, arith}
+use Rattle.std.proofs.Common.{◌≡◌, ◌≢◌, inl, ⊎_elim, ℕ, ◌+◌, ◌≤◌, Bool, true, false, not, ◌&&◌, List, [], ◌∷◌, ◌++◌, length, take, Option, Some, None, nat_lt, if◌then◌else◌, slice_get, refl, sym, ap, ◌∙◌, subst, arith}
 use Rattle.gum_messages.specs.declared.member.Member.{Member}
 use Rattle.gum_messages.specs.Members.{inc_of}
 use Rattle.gum_messages.specs.Places.{at_place}
 use Rattle.gum_messages.proofs.Branches.{if_cases, option_cases}
-use Rattle.gum_messages.proofs.Placing.{place_within}
+use Rattle.gum_messages.proofs.Placing.{get_push, get_within, place_within}
 use Rattle.update_records.specs.Entry.{Entry}
 use Rattle.gum_core.specs.declared.decision.Decision.{Decision}
 use Rattle.gum_core.specs.Updating.{CoreState, greatest_of}
@@ -15,14 +15,14 @@ use Rattle.view_reconcile.specs.Joining.{ReconcileState}
 use Rattle.view_reconcile.specs.Joining as joining
 use Rattle.cluster_rules.specs.Machines.{Machine, IsMachine}
 use Rattle.cluster_rules.specs.Packets.{Body, Packet, Granted, Apply, Offer, Need, Ready}
-use Rattle.cluster_rules.specs.Nodes.{Effect, NodeState, Out, Replica, Send, done_of, halts, has_state, locker_at, members_of, number_of, packet}
+use Rattle.cluster_rules.specs.Nodes.{Effect, NodeState, Out, Replica, Send, done_of, halts, has_state, locker_at, members_of, nothing, number_of, packet}
 use Rattle.cluster_rules.specs.Updates.{tick_head, tick_lock}
 use Rattle.cluster_rules.specs.Joins.{offer_each, offered_cap, tick_join}
 use Rattle.cluster_rules.specs.Receiving.{checkpoint, clock, tick}
-use Rattle.cluster_rules.specs.Worlds.{World, absorb, acked, sent}
-use Rattle.cluster_laws.proofs.Inv.{AckOk, Invariant, LoggedIn, MemberOk, NodeOk, Pooled}
-use Rattle.cluster_laws.proofs.Stable.{Grown, grown_refl}
-use Rattle.cluster_laws.proofs.Moves.{move_keeps, moved, node_in, none_acked, none_told, one_told, owner_moves, slice_get_append, stay_keeps, stay_tells, told}
+use Rattle.cluster_rules.specs.Worlds.{Point, World, absorb, acked, reads, sent}
+use Rattle.cluster_laws.proofs.Inv.{AckOk, Invariant, LoggedIn, MemberOk, NodeOk, OwnerOk, Past, Pooled}
+use Rattle.cluster_laws.proofs.Stable.{Ext, Grown, grown_refl}
+use Rattle.cluster_laws.proofs.Moves.{quiet_points, ext_on, move_on, node_on, with_history, at_self, move_keeps, moved, node_in, none_acked, none_told, one_told, owner_moves, put_cases, slice_get_append, stay_keeps, stay_tells, told}
 use Rattle.cluster_laws.proofs.Applying.{and_true, done_at, length_some, lt_true, not_true, state_of}
 use Rattle.gum_core.proofs.Cases.{ticked_cases}
 use Rattle.view_reconcile.proofs.Cases.{pulled_bytes_says}
@@ -143,7 +143,7 @@ module _ {M : Machine} where
   clock_keeps w n x stamp j at =
       let h : NodeOk w n x = j.nodes n x at in
       let y : NodeState M = record x { stamp = stamp } in
-      let gr : Grown x y = record { inc = refl; done = omega arith; passed = omega arith; asks = omega arith; view = omega arith; waits = λ e q z. z } in
+      let gr : Grown x y = record { inc = refl; done = omega arith; passed = omega arith; asks = omega arith; view = omega arith; settled = λ k e. inl e; waits = λ e q z. z } in
       move_keeps w n x y [] j at (record {
         grown = gr;
         node = node_in w n x y [] j at gr (record {
@@ -187,6 +187,7 @@ module _ {M : Machine} where
         });
         messages = none_told (λ (p : Packet). Pooled (moved w n y []) p);
         acks = none_acked (λ (a b : ℕ). AckOk (moved w n y []) a b);
+        points = quiet_points w n y [] refl;
         owner = owner_moves w n x y [] j at (record { ready = refl; open_ = refl; node = refl; view = refl; lock = refl; members = refl; greatest = refl; done = refl }) (λ o k op i. let old : MemberOk w.log x.core.lock n x = k.members op n x at i in record { near = old.near; free = old.free; heads = old.heads });
         member = λ a z ne o k op i. let old : MemberOk w.log z.core.lock n x = k.members op n x at i in record { near = old.near; free = old.free; heads = old.heads };
       })
@@ -198,3 +199,57 @@ module _ {M : Machine} where
       if_cases P (x.core.is_open && updating.locks x.core) _ _
       (λ g. if_cases P (nat_lt (number_of x) w.log.held) _ _ (λ f. dies) (λ f. if_cases P good _ _ (λ b. stay_keeps w n x j at) (λ b. dies)))
       (λ g. stay_keeps w n x j at)
+
+  -- a reader is answered
+  pub read_keeps : (w : World M) (n : ℕ) (x : NodeState M) → Invariant w → w.nodes n ≡ Some x → joining.is_open x.join ≡ true → Invariant (absorb n (nothing x) (reads n x w))
+  read_keeps w n x j at op =
+      let h : NodeOk w n x = j.nodes n x at in
+      let pt : Point = record { node = n; inc = x.join.inc; place = done_of x } in
+      let ps : List Point = w.points ++ pt ∷ [] in
+      let self : (P : NodeState M → Type 0) → P x → (z : NodeState M) → w.nodes n ≡ Some z → P z = λ P p z e. let q : Some x ≡ Some z = sym at ∙ e in let g : x ≡ z = cc in subst P g p in
+      let now_ : Past w n x.join.inc (done_of x) = record {
+        started = omega (arith, h.inc);
+        done = λ z e same. self (λ (t : NodeState M). done_of x ≤ done_of t) (omega arith) z e;
+        settled = λ z k e same. self (λ (t : NodeState M). t.settled ≡ Some k → done_of x ≤ k) (λ f. absurd (let q : ◌≡◌ {A = Option ℕ} None (Some k) = sym (h.unsettled op) ∙ f in cc)) z e;
+      } in
+      let gr : Grown x x = grown_refl x in
+      let ex : Ext w (moved (with_history w w.requests ps) n x []) = ext_on w w.requests ps n x x [] (λ m i q u e. e) at gr in
+      move_on w w.requests ps n x x [] (λ m i q u e. e) (λ m ne. refl) j.log.unasked
+      (λ a p s. ⊎_elim
+      (λ (c : slice_get w.points a ≡ Some p). j.points a p c)
+      (λ (c : (a ≡ length w.points) × (p ≡ pt)). subst (λ (t : Point). Past w t.node t.inc t.place) (sym c.1) now_)
+      (get_push w.points pt a p s))
+      (λ a b p q sa sb le nd ic. ⊎_elim
+      (λ (c : slice_get w.points b ≡ Some q). ⊎_elim
+      (λ (d : slice_get w.points a ≡ Some p). j.steady a b p q d c le nd ic)
+      (λ (d : (a ≡ length w.points) × (p ≡ pt)). absurd (omega (arith, d.0, get_within w.points b q c)))
+      (get_push w.points pt a p sa))
+      (λ (c : (b ≡ length w.points) × (q ≡ pt)). ⊎_elim
+      (λ (d : slice_get w.points a ≡ Some p).
+      let same_node : p.node ≡ n = nd ∙ ap (λ (t : Point). t.node) c.1 in
+      let same_inc : x.join.inc ≡ p.inc = sym (ic ∙ ap (λ (t : Point). t.inc) c.1) in
+      let o : Past w n p.inc p.place = subst (λ (t : ℕ). Past w t p.inc p.place) same_node (j.points a p d) in
+      omega (arith, o.done x at same_inc, ap (λ (t : Point). t.place) c.1))
+      (λ (d : (a ≡ length w.points) × (p ≡ pt)). omega (arith, ap (λ (t : Point). t.place) c.1, ap (λ (t : Point). t.place) d.1))
+      (get_push w.points pt a p sa))
+      (get_push w.points pt b q sb))
+      j at (record {
+        grown = gr;
+        node = node_on w w.requests ps n (nothing x) n x ex (λ r s. (j.log.asked r s).1) refl h;
+        messages = none_told (λ (p : Packet). Pooled (moved (with_history w w.requests ps) n x []) p);
+        acks = none_acked (λ (a b : ℕ). AckOk (moved (with_history w w.requests ps) n x []) a b);
+        points = quiet_points w n x [] refl;
+        owner = λ o.
+            let k : OwnerOk w n x = j.owner n x (record { runs = at; ready = o.ready; locker = o.locker; held = o.held }) in
+            record {
+              sure = k.sure;
+              all_done = k.all_done;
+              closed = k.closed;
+              greatest = k.greatest;
+              members = λ op2 a b f i. ⊎_elim
+                  (λ (d : (a ≡ n) × (Some x ≡ Some b)). at_self (λ (t : ℕ) (v : NodeState M). inc_of x.join.view.members t ≡ v.join.inc → MemberOk w.log x.core.lock t v) a n x b d.0 d.1 (k.members op2 n x at) i)
+                  (λ (d : (a ≢ n) × (w.nodes a ≡ Some b)). k.members op2 a b d.1 i)
+                  (put_cases w.nodes n (Some x) a b f);
+            };
+        member = λ a z ne o k op2 i. k.members op2 n x at i;
+      })

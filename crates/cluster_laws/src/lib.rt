@@ -1,11 +1,11 @@
 //! The protocol keeps its promises: after every list of events each registry is a prefix's of the one update order, and
-//! each acknowledged update stands in every later open view. The definitions are those of `cluster_rules`, the invariants
+//! each acknowledged update stands in every later open view, and no incarnation answers at a point below an earlier one. The definitions are those of `cluster_rules`, the invariants
 //! and their proof stand in `proofs/`.
 #![tactic(auto)]
 
 ghost use Rattle.std.specs.Prelude.{ℕ, List};
 ghost use Rattle.cluster_rules.specs.Machines.{Machine, IsMachine};
-ghost use Rattle.cluster_rules.specs.Promises.{Kept, Safe};
+ghost use Rattle.cluster_rules.specs.Promises.{Kept, Safe, Steady};
 ghost use Rattle.cluster_rules.specs.Worlds.{Event, opening, run};
 
 /// What can be replicated: a deterministic state machine that reads back from its bytes.
@@ -25,4 +25,10 @@ pub fn safe<R: Replicated>()
 /// a later one.
 pub fn kept<R: Replicated>()
     ensures { (cap : ℕ) (events : List Event) → Kept (run events (opening R.machine cap)) }
+{}
+
+/// The points of the order at which one incarnation of a node answers never fall: neither those of its readers, nor the
+/// places of its acknowledged updates, nor the one behind the other.
+pub fn steady<R: Replicated>()
+    ensures { (cap : ℕ) (events : List Event) → Steady (run events (opening R.machine cap)) }
 {}

@@ -8,7 +8,7 @@ use Rattle.update_records.specs.Entry.{Entry}
 use Rattle.cluster_rules.specs.Machines.{IsMachine, Machine, replay}
 use Rattle.cluster_rules.specs.Nodes.{NodeState, done_of}
 use Rattle.cluster_rules.specs.Updates.{InDoubt, Written}
-use Rattle.cluster_rules.specs.Worlds.{Declare, Deliver, Die, DieInDeliver, DieInInstall, Event, Install, Recovered, Start, Submit, World, opening, run}
+use Rattle.cluster_rules.specs.Worlds.{Declare, Deliver, Die, DieInDeliver, DieInInstall, Event, Install, Point, Read, Recovered, Start, Submit, World, opening, run}
 
 abbrev listed : List (ℕ × ℕ) → List Member
 listed [] = []
@@ -92,6 +92,14 @@ module _ (u : Update) where
   pub both_apply : shown ((run spread (run granted joined)).nodes 1) ∷ shown ((run spread (run granted joined)).nodes 2) ∷ [] ≡ Some (true, (1, 1)) ∷ Some (true, (1, 1)) ∷ []
   both_apply = refl
 
+  -- Readers of node 2 are answered before its record reached it, and after; so is the update itself.
+  abbrev place_of_point : List Point → List ℕ
+  place_of_point [] = []
+  place_of_point (p ∷ ps) = p.place ∷ place_of_point ps
+
+  pub points : place_of_point (run (Read 2 ∷ []) (run spread (run granted (run (Read 2 ∷ []) joined)))).points ≡ 0 ∷ 1 ∷ 1 ∷ []
+  points = refl
+
   -- An Ask that comes again while its sender has the lock is granted again and not logged again.
   abbrev asked_twice : List Event
   asked_twice = Submit 2 u ∷ Deliver 6 Written ∷ Deliver 6 Written ∷ []
@@ -151,6 +159,26 @@ module _ (u : Update) where
 
   pub dropped : shown ((run (reopens false) (run doubtful begin)).nodes 1) ≡ Some (true, (2, 0))
   dropped = refl
+
+  -- The locker's append of node 2's update failed, and node 2 goes on alone. Where the record is found its head is
+  -- settled and acknowledged; where it isn't, the update is asked for again and logged once.
+  abbrev orphaned : Bool → List Event
+  orphaned found = Submit 2 u ∷ Deliver 6 InDoubt ∷ Declare (view 2 ((2, 1) ∷ [])) ∷ Install 2 2 (Recovered found) ∷ []
+
+  pub found_acks : (run (orphaned true) joined).acks ≡ (2, 1) ∷ []
+  found_acks = refl
+
+  pub lost_asks : (run (orphaned false) joined).acks ≡ []
+  lost_asks = refl
+
+  abbrev asks_again : List Event
+  asks_again = Deliver 7 Written ∷ Deliver 8 Written ∷ []
+
+  pub lost_acks : (run asks_again (run (orphaned false) joined)).acks ≡ (2, 1) ∷ []
+  lost_acks = refl
+
+  pub lost_logs : length (run asks_again (run (orphaned false) joined)).log.order ≡ 1
+  lost_logs = refl
 
   -- A death inside an append leaves the record in doubt as well, and one inside an opening may have raised the claim.
   abbrev torn : List Event

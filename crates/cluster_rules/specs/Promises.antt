@@ -5,7 +5,7 @@ use Rattle.update_records.specs.Entry.{Entry}
 use Rattle.view_reconcile.specs.Joining as joining
 use Rattle.cluster_rules.specs.Machines.{Machine, registry_at}
 use Rattle.cluster_rules.specs.Nodes.{NodeState, Replica, number_of}
-use Rattle.cluster_rules.specs.Worlds.{World}
+use Rattle.cluster_rules.specs.Worlds.{Point, World}
 
 -- Every registry is a prefix's of the one order; records stand at their places, none is logged twice, and each is the
 -- update of the request that its id names. The doubtful record is the next one, and no record of the order.
@@ -22,3 +22,7 @@ pub record Safe {M : Machine} (w : World M) : Type 0 where
 pub record Kept {M : Machine} (w : World M) : Type 0 where
   pub stands : (v k : ℕ) (a : ℕ) → at_place w.acks a ≡ Some (v, k) → k ≤ length w.log.order
   pub applied : (v k : ℕ) (a n : ℕ) (x : NodeState M) → at_place w.acks a ≡ Some (v, k) → w.nodes n ≡ Some x → joining.is_open x.join ≡ true → v ≤ number_of x → (r : Replica M) × (x.replica ≡ Some r) × (k ≤ r.done)
+
+-- The points at which one incarnation of a node answers never fall.
+pub record Steady {M : Machine} (w : World M) : Type 0 where
+  pub rises : (a b : ℕ) (p q : Point) → at_place w.points a ≡ Some p → at_place w.points b ≡ Some q → a ≤ b → p.node ≡ q.node → p.inc ≡ q.inc → p.place ≤ q.place

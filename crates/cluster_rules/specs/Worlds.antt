@@ -9,9 +9,10 @@ use Rattle.gum_messages.specs.Places.{at_place}
 use Rattle.update_records.specs.Entry.{Entry}
 use Rattle.update_records.specs.declared.update.Update.{Update}
 use Rattle.view_reconcile.specs.Chains.{fault_of, view_in}
+use Rattle.view_reconcile.specs.Joining as joining
 use Rattle.cluster_rules.specs.Machines.{Machine}
 use Rattle.cluster_rules.specs.Packets.{Packet}
-use Rattle.cluster_rules.specs.Nodes.{Acked, Effect, NodeState, Out, Send, fresh, halts, nothing, number_of}
+use Rattle.cluster_rules.specs.Nodes.{Acked, Effect, NodeState, Out, Send, done_of, fresh, halts, nothing, number_of}
 use Rattle.cluster_rules.specs.Updates.{Answer, Logged, may_submit, submit}
 use Rattle.cluster_rules.specs.Joins.{entered, recovers, takes_view}
 use Rattle.cluster_rules.specs.Receiving.{checkpoint, clock, receive, tick}
@@ -30,6 +31,12 @@ pub record Log : Type 0 where
   pub doubtful_view : ℕ
   pub count : ℕ → Option ℕ
 
+-- A node answered in one of its incarnations: a reader by the registry behind so many records, or an update by its place.
+pub record Point : Type 0 where
+  pub node : ℕ
+  pub inc : ℕ
+  pub place : ℕ
+
 pub record World (M : Machine) : Type 0 where
   pub nodes : ℕ → Option (NodeState M)
   -- How often each node was started.
@@ -41,6 +48,8 @@ pub record World (M : Machine) : Type 0 where
   pub acks : List (ℕ × ℕ)
   -- History, which no node reads: the updates that a node took in each of its incarnations; request q is the q-th.
   pub requests : ℕ → ℕ → List Update
+  -- History: all points of the order at which nodes answered, in the order in which they did.
+  pub points : List Point
   pub log : Log
 
 abbrev pub opening : (M : Machine) → ℕ → World M
@@ -51,6 +60,7 @@ opening M cap = record {
   pool = [];
   acks = [];
   requests = λ n i. [];
+  points = [];
   log = record { cap = cap; order = []; doubtful = None; held = 0; view_at = λ k. 0; doubtful_view = 0; count = λ v. None };
 }
 
@@ -72,6 +82,8 @@ pub data Event : Type 0 where
   Deliver : (message : ℕ) → (answer : Answer) → Event
   -- An updating call or a batch.
   Submit : (node : ℕ) → (update : Update) → Event
+  -- A reader of an open node is answered.
+  Read : (node : ℕ) → Event
   Tick : (node : ℕ) → Event
   Clock : (node stamp : ℕ) → Event
   Checkpoint : (node : ℕ) → (good : Bool) → Event
@@ -90,9 +102,19 @@ abbrev pub acked : List Effect → List (ℕ × ℕ)
 acked [] = []
 acked (e ∷ es) = elim e [ Acked view place ↦ (view, place) ∷ acked es | _ ↦ acked es ]
 
--- A node has done this.
+-- An acknowledgement is an answer at its place.
+abbrev pub answered : ℕ → ℕ → List (ℕ × ℕ) → List Point
+answered node inc [] = []
+answered node inc (a ∷ as_) = record { node = node; inc = inc; place = a.1 } ∷ answered node inc as_
+
+-- A node has done this. The incarnation that runs is the last one that was started.
 abbrev pub absorb : {M : Machine} → ℕ → Out M → World M → World M
-absorb n o w = record w { nodes = put w.nodes n o.node; pool = w.pool ++ sent o.effects; acks = w.acks ++ acked o.effects }
+absorb n o w = record w {
+  nodes = put w.nodes n o.node;
+  pool = w.pool ++ sent o.effects;
+  acks = w.acks ++ acked o.effects;
+  points = w.points ++ answered n (w.starts n) (acked o.effects);
+}
 
 abbrev pub stopped : {M : Machine} → ℕ → World M → World M
 stopped n w = record w { nodes = put w.nodes n None }
@@ -166,6 +188,9 @@ die_in_install w n x v raised = stopped n (with_log (raise (opens_log w x v && r
 abbrev pub noted : {M : Machine} → ℕ → NodeState M → Update → World M → World M
 noted n x update w = if may_submit x then record w { requests = put w.requests n (put (w.requests n) x.join.inc (w.requests n x.join.inc ++ update ∷ [])) } else w
 
+abbrev pub reads : {M : Machine} → ℕ → NodeState M → World M → World M
+reads n x w = record w { points = w.points ++ record { node = n; inc = x.join.inc; place = done_of x } ∷ [] }
+
 abbrev pub was_started : (ℕ → ℕ) → Member → Bool
 was_started starts m = nat_lt 0 m.inc && nat_le m.inc (starts m.node)
 
@@ -188,6 +213,7 @@ happens w (Declare v) = if may_declare w v then record w { chain = w.chain ++ v 
 happens w (Install n v opening) = at_node w n (λ x. elim (view_in w.chain v) [ None ↦ w | Some u ↦ install w n x u opening ])
 happens w (Deliver k answer) = elim (at_place w.pool k) [ None ↦ w | Some p ↦ deliver w p answer ]
 happens w (Submit n update) = at_node w n (λ x. absorb n (submit x update) (noted n x update w))
+happens w (Read n) = at_node w n (λ x. if joining.is_open x.join then absorb n (nothing x) (reads n x w) else w)
 happens w (Tick n) = at_node w n (λ x. absorb n (tick x) w)
 happens w (Clock n stamp) = at_node w n (λ x. absorb n (clock x stamp) w)
 happens w (Checkpoint n good) = at_node w n (λ x. absorb n (checkpoint x w.log.held good) w)
