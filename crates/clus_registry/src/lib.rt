@@ -12,3 +12,6 @@ mod registry;
 
 pub use registry::Registry;
 pub use registry_defs::{Info, Outcome};
+
+#[cfg(test)]
+mod tests;
