@@ -45,6 +45,13 @@ impl Handles {
         }
     }
 
+    /// The number of the node.
+    pub fn node(&self) -> u16
+        ensures { result ≡ self.now.node }
+    {
+        self.node
+    }
+
     /// How many handles were opened so far.
     pub fn serials(&self) -> u64
         ensures count { result ≡ self.now.serials }

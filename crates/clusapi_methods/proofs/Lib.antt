@@ -1,0 +1,5 @@
+mod Each
+pub mod Checks
+pub mod Following
+pub mod NameTexts
+pub mod Told

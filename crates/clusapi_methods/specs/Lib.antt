@@ -1,0 +1,7 @@
+pub mod Calls
+pub mod Arguments
+pub mod Checked
+pub mod Refusals
+pub mod Results
+pub mod Plans
+pub mod Finishing
