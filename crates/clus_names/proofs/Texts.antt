@@ -143,7 +143,7 @@ count_again text h some = sym (length-slice_split is_separator text) ∙ ap (λ 
 
 -- ---- a path and one below it
 
-between : (part : List ℕ) (parts : List (List ℕ)) (first : List ℕ) (others : List (List ℕ)) → text_of ((part ∷ parts) ++ (first ∷ others)) ≡ text_of (part ∷ parts) ++ separator ∷ text_of (first ∷ others)
+pub between : (part : List ℕ) (parts : List (List ℕ)) (first : List ℕ) (others : List (List ℕ)) → text_of ((part ∷ parts) ++ (first ∷ others)) ≡ text_of (part ∷ parts) ++ separator ∷ text_of (first ∷ others)
 between part [] first others = refl
 between part (next ∷ parts) first others = ap (λ t. part ++ separator ∷ t) (between next parts first others) ∙ sym (append_assoc part (separator ∷ text_of (next ∷ parts)) (separator ∷ text_of (first ∷ others)))
 

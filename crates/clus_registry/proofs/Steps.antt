@@ -14,11 +14,11 @@ use Rattle.registry_defs.specs.Changes.{at_key, without_value, created, key_dele
 use Rattle.registry_defs.specs.Growth.{creation_added, creation_freed}
 use Rattle.registry_defs.specs.Nodes.{Node, keys_of, path_of}
 use Rattle.registry_defs.proofs.Orders.{name_total, name_exact, path_total, path_exact, rising_from_sorted}
+use Rattle.registry_defs.proofs.Paths.{folded-below, text_folded}
 use Rattle.update_records.specs.Validity.{FitTogether}
 use Rattle.clus_registry.specs.Found.{IsAt}
 use Rattle.clus_registry.proofs.Maps.{not_none}
 use Rattle.clus_registry.proofs.Totals.{found_within}
-use Rattle.clus_registry.proofs.Paths.{folded-below, text_folded}
 use Rattle.clus_registry.proofs.Trees.{size_at_key, created_sum, added_below, freed_below, deleted_sum}
 use Rattle.clus_registry.proofs.Keeping.{tree_of, key_limits, IsStamp, registry_created, registry_deleted}
 

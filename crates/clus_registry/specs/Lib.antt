@@ -1,3 +1,4 @@
 pub mod Kept
 pub mod Outcomes
 pub mod Found
+pub mod States

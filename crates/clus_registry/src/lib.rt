@@ -12,6 +12,9 @@ mod registry;
 
 pub use registry::Registry;
 pub use registry_defs::{Info, Outcome};
+pub use registry_states::StateFault;
 
+#[cfg(test)]
+mod state_tests;
 #[cfg(test)]
 mod tests;

@@ -1,5 +1,6 @@
-ghost use Rattle.std.specs.Prelude.{◌≡◌, None, Some, IfSome, MatchOption, option_map};
+ghost use Rattle.std.specs.Prelude.{◌≡◌, ◌≤◌, length, None, Some, IfSome, MatchOption, option_map};
 ghost use Rattle.clus_names.specs.Folding.{folded, folded_parts};
+ghost use Rattle.clus_names.specs.Limits.{IsName, IsPart};
 ghost use Rattle.registry_defs.specs.Contents.{keys_in};
 ghost use Rattle.registry_defs.specs.Keys.{key_at};
 ghost use Rattle.registry_defs.specs.Limits.{IsRegistry, HaveFields};
@@ -26,7 +27,8 @@ impl Registry {
 
     /// The type and the data of a value.
     pub fn value(&self, key: &Path, name: &Name) -> Option<(u32, &[u8])>
-        ensures { MatchOption result (value_in (folded_parts key.now) (folded name.now) (keys_in self.now) ≡ None) (λ found. option_map type_and_data (value_in (folded_parts key.now) (folded name.now) (keys_in self.now)) ≡ Some (found.0, found.1.now)) }
+        ensures found { MatchOption result (value_in (folded_parts key.now) (folded name.now) (keys_in self.now) ≡ None) (λ found. option_map type_and_data (value_in (folded_parts key.now) (folded name.now) (keys_in self.now)) ≡ Some (found.0, found.1.now)) }
+        ensures short { IfSome result (λ found. length found.1.now ≤ 49152) }
     {
         match self.key_at(key) {
             None => None,
@@ -39,7 +41,8 @@ impl Registry {
 
     /// The name and the written time of the subkey with exactly so many smaller ones.
     pub fn nth_key(&self, key: &Path, index: u32) -> Option<(&[u16], u64)>
-        ensures { MatchOption result (nth_subkey (folded_parts key.now) index (keys_in self.now) ≡ None) (λ found. option_map name_and_time (nth_subkey (folded_parts key.now) index (keys_in self.now)) ≡ Some (found.0.now, found.1)) }
+        ensures found { MatchOption result (nth_subkey (folded_parts key.now) index (keys_in self.now) ≡ None) (λ found. option_map name_and_time (nth_subkey (folded_parts key.now) index (keys_in self.now)) ≡ Some (found.0.now, found.1)) }
+        ensures name { IfSome result (λ found. IsPart found.0.now) }
     {
         match self.key_at(key) {
             None => None,
@@ -52,7 +55,9 @@ impl Registry {
 
     /// The name, the type and the data of the value with exactly so many smaller ones.
     pub fn nth_value(&self, key: &Path, index: u32) -> Option<(&[u16], u32, &[u8])>
-        ensures { MatchOption result (nth_value (folded_parts key.now) index (keys_in self.now) ≡ None) (λ found. option_map name_type_and_data (nth_value (folded_parts key.now) index (keys_in self.now)) ≡ Some (found.0.now, found.1, found.2.now)) }
+        ensures found { MatchOption result (nth_value (folded_parts key.now) index (keys_in self.now) ≡ None) (λ found. option_map name_type_and_data (nth_value (folded_parts key.now) index (keys_in self.now)) ≡ Some (found.0.now, found.1, found.2.now)) }
+        ensures name { IfSome result (λ found. IsName found.0.now) }
+        ensures short { IfSome result (λ found. length found.2.now ≤ 49152) }
     {
         match self.key_at(key) {
             None => None,

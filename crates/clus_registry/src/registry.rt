@@ -1,10 +1,14 @@
-ghost use Rattle.std.specs.Prelude.{◌≡◌, ◌≤◌, length, IfOk};
+ghost use Rattle.std.specs.Prelude.{◌≡◌, ◌+◌, ◌≤◌, drop, length, take, IfErr, IfOk};
 ghost use Rattle.registry_defs.specs.Contents.{keys_in};
-ghost use Rattle.registry_defs.specs.Keys.{root_alone};
-ghost use Rattle.registry_defs.specs.Limits.{IsRegistry};
+ghost use Rattle.registry_defs.specs.Keys.{Keys, root_alone};
+ghost use Rattle.registry_defs.specs.Limits.{IsRegistry, HaveFields};
+ghost use Rattle.registry_defs.specs.Nodes.{keys_of};
+ghost use Rattle.registry_defs.specs.Rising.{RisingKeys};
 ghost use Rattle.registry_defs.specs.Sizes.{size};
 ghost use Rattle.registry_defs.specs.Spelling.{registry_text};
+ghost use Rattle.clus_registry.specs.States.{FailsOn, GivesKeys, IsReadFrom};
 
+use registry_states::{StateFault, decode_state};
 use registry_tree::Key;
 use std::alloc::{AllocError, Global};
 use std::marker::Model;
@@ -49,6 +53,26 @@ impl Registry {
         })
     }
 
+    /// The registry that the bytes encode, all of the bytes.
+    pub fn from_bytes(alloc: Global, bytes: &[u8], cap: u32) -> Result<Registry, StateFault>
+        requires least { 4096 ≤ cap }
+        requires most { cap ≤ 16777216 }
+        // What is read is a registry within the cap, and is encoded so.
+        ensures found { IfOk result (λ registry. IsReadFrom cap bytes.now registry) }
+        // What is encoded so is read, unless memory runs out.
+        ensures only { (keys : Keys) → IsRegistry keys → size keys ≤ cap → bytes.now ≡ registry_text keys → GivesKeys result keys }
+        // Which field is at fault.
+        ensures fault { IfErr result (FailsOn cap bytes.now) }
+    {
+        let root = decode_state(alloc, bytes, cap)?;
+        Ok(Registry {
+            alloc,
+            root,
+            size: bytes.len() as u32,
+            cap,
+        })
+    }
+
     /// How many bytes its encoding has, which the cap bounds.
     pub fn size(&self) -> u32
         ensures exact { result ≡ size (keys_in self.now) }
@@ -83,7 +107,25 @@ impl Registry {
         ensures encoding { IfOk result (λ bytes. bytes.items ≡ registry_text (keys_in self.now)) }
     {
         let mut put = Put::new(self.alloc, Endian::Little);
-        self.root.write(&mut put)?;
+        self.root().write(&mut put)?;
         Ok(put.into_bytes())
+    }
+
+    /// Fills a slice with the bytes of the encoding from the offset on, without taking memory.
+    pub fn state_piece(&self, offset: u32, into: &mut [u8])
+        requires within { offset + length into.old ≤ size (keys_in self.now) }
+        ensures { into.new ≡ take (length into.old) (drop offset (registry_text (keys_in self.now))) }
+    {
+        self.root().write_piece(offset as usize, into);
+    }
+
+    /// The root, with all that is written of it.
+    fn root(&self) -> &Key
+        ensures keys { keys_of result.now ≡ keys_in self.now }
+        ensures length { length (registry_text (keys_of result.now)) ≡ size (keys_in self.now) }
+        ensures rising { RisingKeys (keys_of result.now) }
+        ensures fields { HaveFields (keys_of result.now) }
+    {
+        &self.root
     }
 }

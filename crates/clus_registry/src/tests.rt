@@ -159,6 +159,44 @@ fn updates_in_turn(rt: HostRuntime) -> Result<(), Fail> {
     Ok(())
 }
 
+/// More keys and values beside those of `SMALL_STEPS`.
+const WIDER_STEPS: [Step; 5] = [
+    (6, CREATE, "", 0, r"A\longer name", 0, [0, 1, 8], 128),
+    (9, SET_VALUE, r"A\b", 1, "hundred", 100, [0, 0, 0], 260),
+    (9, SET_VALUE, r"A\b", 1, "none", 0, [0, 0, 0], 278),
+    (0, CREATE, "", 0, "last", 0, [0, 1, 11], 304),
+    (7, SET_VALUE, "", 0, "W", 9, [0, 0, 0], 333),
+];
+
+/// Whether each window of so many bytes is the same part of the encoding.
+fn has_pieces(alloc: Global, registry: &Registry, bytes: &[u8], length: u16) -> Result<bool, Fail> {
+    let mut into = vec![in alloc; 0xAA; length as usize]?;
+    for offset in 0..u16::MAX {
+        let end = usize::from(offset) + usize::from(length);
+        if (registry.size() as usize) < end {
+            break;
+        }
+        registry.state_piece(u32::from(offset), &mut into);
+        if bytes.get(usize::from(offset)..end) != Some(into.as_slice()) {
+            return Ok(false);
+        }
+    }
+    Ok(true)
+}
+
+#[test]
+fn pieces_of_the_encoding(rt: HostRuntime) -> Result<(), Fail> {
+    let alloc = rt.alloc();
+    let mut registry = Registry::new(alloc, 4096)?;
+    run(alloc, &mut registry, 1, &SMALL_STEPS)?;
+    run(alloc, &mut registry, 8, &WIDER_STEPS)?;
+    let bytes = registry.to_bytes()?;
+    for length in [0, 1, 7, 64, 333] {
+        assert!(rt; has_pieces(alloc, &registry, &bytes, length)?);
+    }
+    Ok(())
+}
+
 /// What is read of the key `A` of the small registry, in a line.
 fn describe(alloc: Global, registry: &Registry, to: &mut String) -> Result<(), Fail> {
     let key = path(alloc, "a")?;
@@ -241,6 +279,10 @@ fn a_path_of_512_parts(rt: HostRuntime) -> Result<(), Fail> {
     assert_eq!(rt; (outcome.status, outcome.disposition), (0, 1));
     assert_eq!(rt; registry.find(&path(alloc, text.as_str())?), Some(1));
     assert_eq!(rt; registry.size(), 10_256);
+    let bytes = registry.to_bytes()?;
+    let read = Registry::from_bytes(alloc, &bytes, 1_048_576)?;
+    assert_eq!(rt; read.find(&path(alloc, text.as_str())?), Some(1));
+    assert_eq!(rt; read.to_bytes()?.as_slice(), bytes.as_slice());
     Ok(())
 }
 /// How many subkeys a key has.

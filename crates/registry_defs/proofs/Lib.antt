@@ -1,4 +1,6 @@
 pub mod Runs
 pub mod Orders
+pub mod Paths
 pub mod Sections
-mod Ranks
+pub mod Lengths
+pub mod Ranks

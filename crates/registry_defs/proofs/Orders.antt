@@ -49,7 +49,7 @@ cmp_behind (p ∷ ps) x y = rw (name_itself p) (cmp_behind ps x y)
 
 -- ---- the test of a list in order, and what it says
 
-less : (r : Ordering) → T (is_lt r) → r ≡ Less
+pub less : (r : Ordering) → T (is_lt r) → r ≡ Less
 less Less t = refl
 less Equal t = absurd t
 less Greater t = absurd t
@@ -66,7 +66,7 @@ both : (a b : Bool) → T a → T b → T (a && b)
 both true b t u = u
 both false b t u = t
 
-so : (b : Bool) → T b → b ≡ true
+pub so : (b : Bool) → T b → b ≡ true
 so true t = refl
 so false t = absurd t
 

@@ -13,7 +13,8 @@ use Rattle.registry_defs.specs.Enumeration.{count_smaller, SubkeysAreCounted, Va
 use Rattle.registry_defs.proofs.Orders.{name_total, path_total}
 use Rattle.registry_defs.proofs.Sections.{section_rising}
 
-each_got : {X : Type 0} (P : X → Type 0) (xs : List X) (n : ℕ) (x : X) → AllByRecursion P xs → slice_get xs n ≡ Some x → P x
+-- What holds of each element of a list holds of the one at an index.
+pub each_got : {X : Type 0} (P : X → Type 0) (xs : List X) (n : ℕ) (x : X) → AllByRecursion P xs → slice_get xs n ≡ Some x → P x
 each_got P [] n x h got = absurd cc
 each_got P (y ∷ ys) zero x h got = let is : y ≡ x = cc in subst P is h.0
 each_got P (y ∷ ys) (suc n) x h got = each_got P ys n x h.1 got

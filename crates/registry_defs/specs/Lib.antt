@@ -11,3 +11,5 @@ pub mod Spelling
 pub mod Nodes
 pub mod Growth
 pub mod Contents
+pub mod StateFields
+pub mod StateGrammar

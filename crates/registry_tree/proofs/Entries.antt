@@ -1,5 +1,5 @@
 -- The values of a key as entries under their folded names: what is found, put and left out of them.
-use Rattle.std.proofs.Common.{◌≡◌, ℕ, suc, cond, not, List, [], ◌∷◌, ◌++◌, get_or, take, drop, set, Option, Some, None, sym, ap, ◌∙◌}
+use Rattle.std.proofs.Common.{◌≡◌, ℕ, suc, cond, not, List, [], ◌∷◌, ◌++◌, ◌≤◌, length, subst, get_or, take, drop, set, Option, Some, None, sym, ap, ◌∙◌}
 use Rattle.std.specs.List.{AllByRecursion, insert, remove}
 use Rattle.std.specs.declared.cmp.Ordering.TheVariants.{Less}
 use Rattle.std.specs.Ordering.{is_eq, ordering_reverse}
@@ -7,7 +7,8 @@ use Rattle.std.specs.FinMap.{put}
 use Rattle.std.specs.FinMap.Entries.{by_order}
 use Rattle.std.proofs.lemmas.List.{map-append}
 use Rattle.clus_names.specs.Folding.{folded, name_cmp}
-use Rattle.registry_defs.specs.Keys.{ValueData, Values, value_at, without}
+use Rattle.registry_defs.specs.Keys.{ValueData, Values, KeyData, value_at, without}
+use Rattle.registry_defs.specs.Limits.{HasFields}
 use Rattle.registry_defs.specs.Changes.{kept_name, value_set}
 use Rattle.registry_defs.proofs.Orders.{name_total, name_itself}
 use Rattle.registry_defs.proofs.Runs as runs
@@ -113,3 +114,9 @@ set_missing name kind bytes vs i new gap made =
 pub each_value : (P : ValueData → Type 0) (vs : List Value) → AllByRecursion (λ e. P e.1) (entries_of vs) → AllByRecursion (λ v. P (value_data v)) vs
 each_value P [] h = tt
 each_value P (v ∷ vs) h = (h.0, each_value P vs h.1)
+
+pub values_fit : (d : KeyData) (vs : List Value) → d.values ≡ entries_of vs → HasFields d → AllByRecursion (λ v. length v.name ≤ 1023) vs × AllByRecursion (λ v. length v.bytes ≤ 49152) vs
+values_fit d vs are fields = (
+  each_value (λ (v : ValueData). length v.name ≤ 1023) vs (subst (λ (l : Values). AllByRecursion (λ e. length e.1.name ≤ 1023) l) are fields.names),
+  each_value (λ (v : ValueData). length v.bytes ≤ 49152) vs (subst (λ (l : Values). AllByRecursion (λ e. length e.1.bytes ≤ 49152) l) are fields.bytes),
+)

@@ -13,3 +13,5 @@ pub mod Totals
 pub mod Texts
 pub mod Spelled
 pub mod Longest
+pub mod FieldTexts
+pub mod Filling

@@ -8,37 +8,38 @@ use Rattle.std.proofs.lemmas.Bool.Decides.{nat_tests}
 use Rattle.std.proofs.lemmas.List.{length-map}
 use Rattle.clus_names.specs.Folding.{path_cmp}
 use Rattle.registry_defs.specs.Keys.{KeyData, Keys}
+use Rattle.registry_defs.specs.Limits.{HasFields, HaveFields}
 use Rattle.registry_defs.specs.Sections.{subkeys}
 use Rattle.registry_defs.specs.Rising.{RisingKeys}
 use Rattle.registry_defs.specs.Nodes.{Node, keys_of, name_of, subkey_entry, under, spread}
 use Rattle.registry_defs.proofs.Orders.{name_itself}
 use Rattle.registry_tree.specs.Weights.{length-under}
 
-each_front : {X : Type 0} (P : X → Type 0) (xs ys : List X) → AllByRecursion P (xs ++ ys) → AllByRecursion P xs
+pub each_front : {X : Type 0} (P : X → Type 0) (xs ys : List X) → AllByRecursion P (xs ++ ys) → AllByRecursion P xs
 each_front P [] ys h = tt
 each_front P (x ∷ xs) ys h = (h.0, each_front P xs ys h.1)
 
-each_back : {X : Type 0} (P : X → Type 0) (xs ys : List X) → AllByRecursion P (xs ++ ys) → AllByRecursion P ys
+pub each_back : {X : Type 0} (P : X → Type 0) (xs ys : List X) → AllByRecursion P (xs ++ ys) → AllByRecursion P ys
 each_back P [] ys h = h
 each_back P (x ∷ xs) ys h = each_back P xs ys h.1
 
-rising_front : (xs ys : Keys) → RisingKeys (xs ++ ys) → RisingKeys xs
+pub rising_front : (xs ys : Keys) → RisingKeys (xs ++ ys) → RisingKeys xs
 rising_front [] ys h = tt
 rising_front (x ∷ xs) ys h = (each_front (λ e. path_cmp x.0 e.0 ≡ Less) xs ys h.0, rising_front xs ys h.1)
 
-rising_back : (xs ys : Keys) → RisingKeys (xs ++ ys) → RisingKeys ys
+pub rising_back : (xs ys : Keys) → RisingKeys (xs ++ ys) → RisingKeys ys
 rising_back [] ys h = h
 rising_back (x ∷ xs) ys h = rising_back xs ys h.1
 
-less_under : (p : List ℕ) (q : List (List ℕ)) (es : Keys) → AllByRecursion (λ e. path_cmp (p ∷ q) e.0 ≡ Less) (under p es) → AllByRecursion (λ e. path_cmp q e.0 ≡ Less) es
+pub less_under : (p : List ℕ) (q : List (List ℕ)) (es : Keys) → AllByRecursion (λ e. path_cmp (p ∷ q) e.0 ≡ Less) (under p es) → AllByRecursion (λ e. path_cmp q e.0 ≡ Less) es
 less_under p q [] h = tt
 less_under p q (e ∷ es) h = (ap (λ r. ordering_then r (path_cmp q e.0)) (sym (name_itself p)) ∙ h.0, less_under p q es h.1)
 
-rising_under : (p : List ℕ) (es : Keys) → RisingKeys (under p es) → RisingKeys es
+pub rising_under : (p : List ℕ) (es : Keys) → RisingKeys (under p es) → RisingKeys es
 rising_under p [] h = tt
 rising_under p (e ∷ es) h = (less_under p e.0 es h.0, rising_under p es h.1)
 
-each_under : (P : KeyData → Type 0) (p : List ℕ) (es : Keys) → AllByRecursion (λ e. P e.1) (under p es) → AllByRecursion (λ e. P e.1) es
+pub each_under : (P : KeyData → Type 0) (p : List ℕ) (es : Keys) → AllByRecursion (λ e. P e.1) (under p es) → AllByRecursion (λ e. P e.1) es
 each_under P p [] h = tt
 each_under P p (e ∷ es) h = (h.0, each_under P p es h.1)
 
@@ -63,6 +64,26 @@ fewer_kid [] i node is within = absurd (omega arith)
 fewer_kid (k ∷ ks) zero node is within =
     subst (λ (n : Node). length (keys_of n) ≤ length (spread (k ∷ ks))) (sym is) (omega (arith, length-append (under (name_of k) (keys_of k)) (spread ks), length-under (name_of k) (keys_of k)))
 fewer_kid (k ∷ ks) (suc i) node is within = omega (arith, fewer_kid ks i node is (omega arith), length-append (under (name_of k) (keys_of k)) (spread ks))
+
+-- what the spelling of a subkey asks for
+pub record IsFitKid (n node : Node) : Type 0 where
+  pub lighter : length node.below < length n.below
+  pub short : length node.here.part ≤ 255
+  pub rising : RisingKeys (keys_of node)
+  pub fields : HaveFields (keys_of node)
+
+pub fit_kid : (n : Node) (nodes : List Node) (i : ℕ) (node : Node) → spread nodes ≡ n.below → node ≡ get_or nodes i node → i < length nodes → RisingKeys (keys_of n) → HaveFields (keys_of n) → IsFitKid n node
+fit_kid n nodes i node below is within up fields =
+    let fewer = fewer_kid nodes i node is within in
+    let all = ap (λ (l : Keys). length l) below in
+    let each = each_kid HasFields nodes i node is within (subst (λ (l : Keys). AllByRecursion (λ e. HasFields e.1) l) (sym below) fields.each.1) in
+    let few = fields.few in
+    record {
+      lighter = omega (arith, fewer, all);
+      short = each.0.part;
+      rising = rising_kid nodes i node is within (subst RisingKeys (sym below) up.1);
+      fields = record { few = omega (arith, fewer, all, few); each = each };
+    }
 
 pub few_kids : (nodes : List Node) → length nodes ≤ length (spread nodes)
 few_kids [] = omega arith

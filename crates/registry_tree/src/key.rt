@@ -1,7 +1,10 @@
 ghost use Rattle.std.specs.Prelude.{◌≡◌, [], nat_lt, length, None, Some, MatchOption, IfSome, IfOk};
+ghost use Rattle.clus_names.specs.Folding.{name_cmp};
 ghost use Rattle.registry_defs.specs.Keys.{new_root, key_at};
-ghost use Rattle.registry_defs.specs.Nodes.{keys_of, path_of};
+ghost use Rattle.registry_defs.specs.Nodes.{keys_of, name_of, path_of, spread};
+ghost use Rattle.registry_defs.specs.Rising.{Rising};
 ghost use Rattle.registry_defs.specs.Sections.{section};
+ghost use Rattle.registry_tree.specs.Values.{entries_of, RisingValues};
 
 use crate::searching::search_keys;
 use crate::value::Value;
@@ -51,6 +54,22 @@ impl Key {
             written: 0,
             values: Vec::new(alloc),
             subkeys: Vec::new(alloc),
+        }
+    }
+
+    /// The key with these values and subkeys.
+    pub fn of(part: Units, birth: u64, written: u64, values: Vec<Value>, subkeys: Vec<Key>) -> Key
+        requires values { RisingValues values.items }
+        requires subkeys { Rising name_cmp name_of subkeys.items }
+        ensures here { result.here ≡ record { part = part; birth = birth; written = written; values = entries_of values.items } }
+        ensures below { result.below ≡ spread subkeys.items }
+    {
+        Key {
+            part,
+            birth,
+            written,
+            values,
+            subkeys,
         }
     }
 

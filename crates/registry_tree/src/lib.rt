@@ -15,6 +15,8 @@ mod searching;
 mod sizing;
 mod value;
 mod values;
+mod window;
+mod windowing;
 mod writing;
 
 pub use growth::Growth;

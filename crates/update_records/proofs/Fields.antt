@@ -126,27 +126,27 @@ any_read w end place n rest small room =
 
 -- ---- counted units
 
-abbrev is_unit : Endian → ℕ → List ℕ → Type 0
+abbrev pub is_unit : Endian → ℕ → List ℕ → Type 0
 is_unit order unit text = (text ≡ num order 2 unit) × (unit < 256 ^ 2)
 
-abbrev IsUnit : ℕ → Type 0
+abbrev pub IsUnit : ℕ → Type 0
 IsUnit unit = unit < 2 ^ 16
 
-unit_found : FoundBy (number_at 2) is_unit
+pub unit_found : FoundBy (number_at 2) is_unit
 unit_found s unit t h e = let f = number_found 2 s unit t h e in (num s.endian 2 unit, f.0, (refl, f.1))
 
-unit_read : ReadBy (number_at 2) is_unit
+pub unit_read : ReadBy (number_at 2) is_unit
 unit_read order place unit text rest is =
     rw is.0 (number_read order place 2 unit rest is.1 ∙ ap (λ p. Some (unit, at order p rest)) (omega (arith, length-num order 2 unit)))
 
-listed_units : (units text : List ℕ) → IsList (is_unit Little) units text → (text ≡ units_text units) × All IsUnit units
+pub listed_units : (units text : List ℕ) → IsList (is_unit Little) units text → (text ≡ units_text units) × All IsUnit units
 listed_units [] text is = (is, All-nil IsUnit)
 listed_units (unit ∷ units) text is =
     let others = listed_units units is.1 is.4 in
     let parts : text ≡ num Little 2 unit ++ units_text units = is.2 ∙ ap (λ t. t ++ is.1) is.3.0 ∙ ap (λ t. num Little 2 unit ++ t) others.0 in
     (parts ∙ sym (flat_map-cons (λ u. num Little 2 u) unit units), All-cons IsUnit unit units is.3.1 others.1)
 
-units_listed : (units : List ℕ) → All IsUnit units → IsList (is_unit Little) units (units_text units)
+pub units_listed : (units : List ℕ) → All IsUnit units → IsList (is_unit Little) units (units_text units)
 units_listed [] h = refl
 units_listed (unit ∷ units) h =
     (num Little 2 unit, units_text units, flat_map-cons (λ u. num Little 2 u) unit units, (refl, All-head IsUnit unit units h), units_listed units (All-tail IsUnit unit units h))
@@ -205,7 +205,7 @@ units_read low high obeys end place units rest limit least most obeyed each room
 
 -- ---- names
 
-both_true : (a b : Bool) → (a && b) ≡ true → (a ≡ true) × (b ≡ true)
+pub both_true : (a b : Bool) → (a && b) ≡ true → (a ≡ true) × (b ≡ true)
 both_true true b e = (refl, e)
 both_true false b e = absurd cc
 
@@ -213,7 +213,7 @@ none_is : {A : Type 0} (o : Option A) → is_none o ≡ true → o ≡ None
 none_is None e = refl
 none_is (Some x) e = absurd cc
 
-name_units : (units : List ℕ) → lacks_zero units ≡ true → All IsUnit units → All IsNameUnit units
+pub name_units : (units : List ℕ) → lacks_zero units ≡ true → All IsUnit units → All IsNameUnit units
 name_units units lacks each k d l =
     record { not_zero = ltb-true _ _ (AllPass-from_list_all (λ unit. ltb 0 unit) units lacks k d l); in_range = each k d l }
 
@@ -314,7 +314,7 @@ data_read end place bytes rest short room =
 
 -- ---- names and paths are read again
 
-lacks_again : (units : List ℕ) → All IsNameUnit units → lacks_zero units ≡ true
+pub lacks_again : (units : List ℕ) → All IsNameUnit units → lacks_zero units ≡ true
 lacks_again units h = list_all-from_AllPass (λ unit. ltb 0 unit) units (λ k d l. lt_test _ _ (h k d l).not_zero)
   where
     lt_test : (a b : ℕ) → a < b → ltb a b ≡ true
@@ -326,7 +326,7 @@ unfolding name_at
 name_read end place name rest h room =
     units_read 0 1023 lacks_zero end place name rest (omega arith) (omega arith) h.short (lacks_again name h.units) (λ k d l. (h.units k d l).in_range) room
 
-part_units : (part : List ℕ) → IsPart part → All IsNameUnit part
+pub part_units : (part : List ℕ) → IsPart part → All IsNameUnit part
 part_units part h k d l = record { not_zero = (h.units k d l).not_zero; in_range = (h.units k d l).in_range }
 
 path_units : (path : List (List ℕ)) → All IsPart path → All IsNameUnit (text_of path)

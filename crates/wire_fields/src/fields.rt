@@ -1,6 +1,6 @@
 //! A reader over a slice, field by field.
 
-ghost use Rattle.std.specs.Prelude.{◌≡◌, ℕ, ◌+◌, ◌<◌, ◌⊎◌, length};
+ghost use Rattle.std.specs.Prelude.{◌≡◌, ℕ, ◌+◌, ◌<◌, ◌^◌, ◌⊎◌, length};
 ghost use Rattle.wire_fields.specs.Numbers.{IsBytes, uuid_text};
 ghost use Rattle.wire_fields.specs.Reading.{Reading, Gives, align_at, bytes_at, gap, number_at, uuid_at};
 
@@ -47,6 +47,18 @@ impl<'a> Fields<'a> {
         Fields {
             rest: bytes,
             place: 0,
+            endian,
+        }
+    }
+
+    /// A reader of bytes that stand behind others: so many lie before them.
+    pub fn behind(bytes: &'a [u8], endian: Endian, place: usize) -> Fields<'a>
+        requires { place + length bytes.now < 2 ^ 63 }
+        ensures { result ≡ record { endian = endian; place = place; left = bytes.now } }
+    {
+        Fields {
+            rest: bytes,
+            place,
             endian,
         }
     }

@@ -1,0 +1,12 @@
+pub mod Lasts
+pub mod Loops
+pub mod Outcomes
+pub mod FoundFields
+pub mod FoundValues
+pub mod FoundKeys
+pub mod FoundLevels
+pub mod FoundNodes
+pub mod FoundStates
+pub mod OnlyFields
+pub mod OnlyLevels
+pub mod OnlyNodes
