@@ -1,4 +1,3 @@
-mod Each
 pub mod Checks
 pub mod Following
 pub mod NameTexts

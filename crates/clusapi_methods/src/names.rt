@@ -6,7 +6,6 @@ ghost use Rattle.ndr_values.specs.Text.{text_of};
 ghost use Rattle.registry_defs.specs.Contents.{keys_in};
 ghost use Rattle.clusapi_methods.specs.Results.{cluster_name, node_name, units_in};
 
-use crate::reading::value;
 use clus_names::{Name, Path, Units};
 use clus_registry::Registry;
 use std::alloc::{AllocError, Global};
@@ -17,7 +16,7 @@ pub(crate) fn cluster_name(alloc: Global, registry: &Registry) -> Result<Units, 
     ensures text { IfOk result IsText }
 {
     let name = cluster_value(alloc)?;
-    match value(registry, &Path::root(alloc), &name) {
+    match registry.value(&Path::root(alloc), &name) {
         None => Ok(Units::new(Vec::new(alloc))),
         Some((_, bytes)) => Ok(Units::new(text_in(alloc, bytes)?)),
     }

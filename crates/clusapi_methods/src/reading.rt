@@ -1,6 +1,6 @@
 //! The methods that read a key of the registry.
 
-ghost use Rattle.std.specs.Prelude.{◌≡◌, ◌≤◌, ◌++◌, true, length, IfOk, IfSome, MatchOption, None, Some, option_map};
+ghost use Rattle.std.specs.Prelude.{◌≡◌, ◌++◌, true, IfOk, option_map};
 ghost use Rattle.clus_names.specs.Folding.{folded, folded_parts};
 ghost use Rattle.clus_names.specs.Limits.{LacksZero};
 ghost use Rattle.clus_names.specs.Parts.{parts_of};
@@ -8,9 +8,6 @@ ghost use Rattle.registry_defs.specs.Applying.{is_born};
 ghost use Rattle.registry_defs.specs.Contents.{keys_in};
 ghost use Rattle.registry_defs.specs.Keys.{key_at};
 ghost use Rattle.registry_defs.specs.Readings.{info_at, nth_subkey, nth_value, value_in};
-ghost use Rattle.clus_registry.specs.Found.{name_and_time, name_type_and_data, type_and_data};
-ghost use Rattle.clusapi_stubs.specs.Outputs.{IsText};
-ghost use Rattle.clusapi_methods.specs.Checked.{IsTold};
 ghost use Rattle.clusapi_methods.specs.declared.planned.Planned.TheVariants.{Answer};
 ghost use Rattle.clusapi_methods.specs.Arguments.{name_refusal, subkey_refusal};
 ghost use Rattle.clusapi_methods.specs.Finishing.{CanFollow};
@@ -23,7 +20,7 @@ use crate::planned::Planned;
 use crate::refusals::refuse;
 use crate::results as of;
 use crate::statuses::{FILE_NOT_FOUND, INVALID_PARAMETER, KEY_DELETED, NO_MORE_ITEMS, NOT_READY};
-use clus_names::{Name, Path, Units};
+use clus_names::Units;
 use clus_registry::Registry;
 use clusapi_stubs::{In, Out};
 use context_handles::{Held, Kind};
@@ -39,40 +36,7 @@ pub(crate) fn is_alive(registry: &Registry, held: &Held) -> bool
     }
 }
 
-/// The type and the data of a value.
-pub(crate) fn value<'a>(registry: &'a Registry, key: &Path, name: &Name) -> Option<(u32, &'a [u8])>
-    ensures found { MatchOption result (value_in (folded_parts key.now) (folded name.now) (keys_in registry.now) ≡ None) (λ found. option_map type_and_data (value_in (folded_parts key.now) (folded name.now) (keys_in registry.now)) ≡ Some (found.0, found.1.now)) }
-    ensures short { IfSome result (λ found. length found.1.now ≤ 49152) }
-{
-    // That a registry keeps its limits is known where its size is read.
-    let _size = registry.size();
-    registry.value(key, name)
-}
-
-/// The name and the written time of a subkey.
-fn nth_key<'a>(registry: &'a Registry, key: &Path, index: u32) -> Option<(&'a [u16], u64)>
-    ensures found { MatchOption result (nth_subkey (folded_parts key.now) index (keys_in registry.now) ≡ None) (λ found. option_map name_and_time (nth_subkey (folded_parts key.now) index (keys_in registry.now)) ≡ Some (found.0.now, found.1)) }
-    ensures text { IfSome result (λ found. IsText found.0.now) }
-{
-    // As above.
-    let _size = registry.size();
-    registry.nth_key(key, index)
-}
-
-/// The name, the type and the data of a value.
-fn nth_value<'a>(
-    registry: &'a Registry,
-    key: &Path,
-    index: u32,
-) -> Option<(&'a [u16], u32, &'a [u8])>
-    ensures found { MatchOption result (nth_value (folded_parts key.now) index (keys_in registry.now) ≡ None) (λ found. option_map name_type_and_data (nth_value (folded_parts key.now) index (keys_in registry.now)) ≡ Some (found.0.now, found.1, found.2.now)) }
-    ensures text { IfSome result (λ found. IsTold found.0.now found.2.now) }
-{
-    // As above.
-    let _size = registry.size();
-    registry.nth_value(key, index)
-}
-
+#[tactic(auto, using(crate::proofs::Told::part_text))]
 pub(crate) fn enum_key(
     alloc: Global,
     input: &In,
@@ -89,7 +53,7 @@ pub(crate) fn enum_key(
     if !is_alive(registry, held) {
         return refuse(alloc, KEY_DELETED, input, true);
     }
-    match nth_key(registry, &held.path, index) {
+    match registry.nth_key(&held.path, index) {
         None => refuse(alloc, NO_MORE_ITEMS, input, true),
         Some((name, written)) => Ok(Planned::Answer {
             out: of::key(alloc, name, written)?,
@@ -119,7 +83,7 @@ pub(crate) fn query_value(
     if !is_alive(registry, held) {
         return refuse(alloc, KEY_DELETED, input, true);
     }
-    match value(registry, &held.path, &name) {
+    match registry.value(&held.path, &name) {
         None => refuse(alloc, FILE_NOT_FOUND, input, true),
         Some((kind, bytes)) => Ok(Planned::Answer {
             out: of::value(alloc, kind, bytes, cb_data)?,
@@ -128,6 +92,7 @@ pub(crate) fn query_value(
     }
 }
 
+#[tactic(auto, using(crate::proofs::Told::is_told))]
 pub(crate) fn enum_value(
     alloc: Global,
     input: &In,
@@ -145,7 +110,7 @@ pub(crate) fn enum_value(
     if !is_alive(registry, held) {
         return refuse(alloc, KEY_DELETED, input, true);
     }
-    match nth_value(registry, &held.path, index) {
+    match registry.nth_value(&held.path, index) {
         None => refuse(alloc, NO_MORE_ITEMS, input, true),
         Some((name, kind, bytes)) => Ok(Planned::Answer {
             out: of::named_value(alloc, name, kind, bytes, cb_data)?,
