@@ -1,0 +1,5 @@
+pub mod Answers
+pub mod Calls
+pub mod Parameters
+pub mod Replies
+pub mod Servers
