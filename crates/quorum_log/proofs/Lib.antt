@@ -7,8 +7,10 @@ pub mod Scans
 pub mod Halves
 pub mod Transfers
 pub mod Opened
+pub mod Unchanged
 pub mod Checkpoints
 pub mod Checkpointed
 pub mod Texts
 pub mod Formatted
 pub mod OneLog
+pub mod OneFault

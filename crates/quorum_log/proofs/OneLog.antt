@@ -16,7 +16,7 @@ next_cases g fits = elim (cases_lt (g + 1) (2 ^ 64)) [
       inr (ap (λ n. n % 2 ^ 64) e ∙ mod_self (2 ^ 64), e)
 ]
 
-not_both_next : (a b : ℕ) → a ≡ next_generation b → b ≡ next_generation a → ⊥
+pub not_both_next : (a b : ℕ) → a ≡ next_generation b → b ≡ next_generation a → ⊥
 not_both_next a b is_a is_b =
     let a_fits : a < 2 ^ 64 = rw is_a (mod-lt (b + 1) (omega arith)) in
     let b_fits : b < 2 ^ 64 = rw is_b (mod-lt (a + 1) (omega arith)) in

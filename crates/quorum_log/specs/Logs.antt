@@ -5,7 +5,7 @@ use Rattle.disk_core.specs.declared.fault.DiskFault.{DiskFault}
 use Rattle.disk_core.specs.declared.fault.DiskFault.TheVariants as disk_faults
 use Rattle.disk_core.specs.Views.{DiskView}
 use Rattle.quorum_log.specs.declared.found.Found.{Found}
-use Rattle.quorum_log.specs.Layout.{half_size, half_at, most_records}
+use Rattle.quorum_log.specs.Layout.{half_size, half_at, most_record, most_records}
 use Rattle.quorum_log.specs.Image.{Holds, tail_of, other_of}
 
 pub record LogValue : Type 0 where
@@ -50,6 +50,14 @@ pub record StandsFor (log : LogValue) (v : DiskView) (x : Found) : Type 0 where
   pub records : log.records ≡ length x.records
   pub tail : log.tail ≡ tail_of x
   pub other : log.other_valid ≡ not (slice_index v.current.seen (other_of x) == 0)
+
+-- The numbers of a log that was found are within their limits, whatever a disk tells.
+pub record IsWithinLimits (x : Found) : Type 0 where
+  pub cap_least : 4096 ≤ x.cap
+  pub cap_most : x.cap ≤ 16_777_216
+  pub state_most : length x.state ≤ x.cap
+  pub last_most : length x.last ≤ most_record
+  pub count : x.base + length x.records ≤ most_records
 
 -- The value of the log that holds x.
 abbrev pub log_of : ℕ → Found → Bool → LogValue

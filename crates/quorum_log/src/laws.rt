@@ -1,9 +1,21 @@
 //! Laws of the definitions, each the contract of a function that does nothing.
-ghost use Rattle.std.specs.Prelude.{◌≡◌, List, ℕ};
+ghost use Rattle.std.specs.Prelude.{◌≡◌, ◌≤◌, List, ℕ};
 ghost use Rattle.quorum_log.specs.declared.found.Found.{Found};
+ghost use Rattle.quorum_log.specs.Checks.{IsBadImage};
 ghost use Rattle.quorum_log.specs.Image.{Holds};
+ghost use Rattle.quorum_log.specs.Layout.{image_size};
 
 /// An image holds one log at most.
 pub fn held_log_is_one()
     ensures { (image : List ℕ) (x y : Found) → Holds image x → Holds image y → x ≡ y }
+{}
+
+/// The checks of an image fail at one place at most.
+pub fn image_has_one_fault()
+    ensures { (image : List ℕ) (size a b : ℕ) → IsBadImage image size a → IsBadImage image size b → a ≡ b }
+{}
+
+/// An image that holds a log, on a disk that is large enough, fails none of its checks.
+pub fn held_log_is_good()
+    ensures { (image : List ℕ) (size place : ℕ) (x : Found) → Holds image x → image_size x.cap ≤ size → IsBadImage image size place → ⊥ }
 {}

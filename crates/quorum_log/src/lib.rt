@@ -19,6 +19,6 @@ mod writing;
 pub use fault::{AppendFault, OpenFault};
 pub use formatting::format;
 pub use found::{Found, FoundRecord, FoundRecords};
-pub use laws::held_log_is_one;
+pub use laws::{held_log_is_good, held_log_is_one, image_has_one_fault};
 pub use layout::image_size;
 pub use log::Log;

@@ -4,7 +4,7 @@ ghost use Rattle.disk_core.specs.Images.{IsImage, Has};
 ghost use Rattle.disk_core.specs.Views.{Passes};
 ghost use Rattle.disk_core.specs.Calls.{ReadStep};
 ghost use Rattle.quorum_log.specs.Layout as layout;
-ghost use Rattle.quorum_log.specs.Logs.{StandsFor};
+ghost use Rattle.quorum_log.specs.Logs.{IsWithinLimits, StandsFor};
 ghost use Rattle.quorum_log.specs.Opening.{OpenFails, OpenCalls, OnlyRead, IsRead, ReadFails, ReadsImage, open_answer};
 
 use crate::checking::{check_header, is_valid, read_current};
@@ -21,6 +21,7 @@ impl Log {
     pub fn open<D: Disk>(alloc: Global, disk: &mut D, claim: u32) -> Result<(Log, Found), OpenFault>
         requires { 64 ≤ (D.view disk.old).size }
         ensures found { IsTrue (D.view disk.old).tells → IfOk result (λ opened. StandsFor opened.0 (D.view disk.new) opened.1) }
+        ensures limits { IfOk result (λ opened. IsWithinLimits opened.1) }
         ensures claimed { IfOk result (λ opened. (opened.0.claim ≡ claim) × ((D.view disk.new).current.held ≡ claim)) }
         ensures fault { IfErr result (OpenFails claim (D.view disk.old) (D.view disk.new)) }
         ensures calls { OpenCalls claim (D.view disk.old) (open_answer result) (D.view disk.new) }

@@ -60,6 +60,11 @@ returns-clause-found g c = λ told.
     rw c.in_ok-log.ensures (opened c.args.claim (g.D.Disk.view c.args.disk.now) (g.D.Disk.view c.take_over.new.disk) (g.D.Disk.view c.read_image.new.disk) c.in_ok-image.image.items c.in_ok-image.cap c.in_ok-found.found
     c.is_valid-other_valid.result taken c.in_ok-image.ensures.image c.read_image.ensures.only_read (rw c.deref.ensures.value at c.in_ok-found.ensures) (rw c.deref-2.ensures.value at c.is_valid-other_valid.ensures) told)
 
+pub returns-clause-limits : goal.returns-clause-limits
+returns-clause-limits g c =
+    let holds = found_in (g.D.Disk.view c.take_over.new.disk) c.in_ok-image.image.items c.in_ok-image.cap c.in_ok-found.found c.in_ok-image.ensures.image (rw c.deref.ensures.value at c.in_ok-found.ensures) in
+    record { cap_least = holds.cap_least; cap_most = holds.cap_most; state_most = holds.state_most; last_most = holds.last_most; count = holds.count }
+
 pub returns-clause-claimed : goal.returns-clause-claimed
 returns-clause-claimed g c =
     let taken = taken_ok c.args.claim (g.D.Disk.view c.args.disk.now) (g.D.Disk.view c.take_over.new.disk) c.in_ok-take_over.field-0 c.in_ok-take_over.ensures in

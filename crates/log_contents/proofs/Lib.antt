@@ -1,0 +1,5 @@
+pub mod Unique
+pub mod Lists
+pub mod Exact
+pub mod Parts
+pub mod OneFault
