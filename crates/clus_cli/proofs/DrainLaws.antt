@@ -1,23 +1,21 @@
 -- The items of a connection, one more at a time.
-use Rattle.std.proofs.Common.{◌≡◌, ℕ, List, [], ◌∷◌, ◌++◌, Option, Some, None, refl, sym, ap, ◌∙◌, subst, append_assoc}
-use Rattle.std.specs.Prelude.{Result, Ok, Err}
+use Rattle.std.proofs.Common.{◌≡◌, ℕ, List, [], ◌∷◌, ◌++◌, Option, Some, None, true, false, refl, sym, ap, ◌∙◌, subst, append_assoc}
+use Rattle.std.specs.Prelude.{Bool, Result, Ok, Err}
 use Rattle.std.proofs.lemmas.List.{append-nil}
-use Rattle.causes.specs.Writing.{Wrote, WroteSome}
 use Rattle.rpc_calls.specs.declared.intake_fault.IntakeFault.{IntakeFault}
-use Rattle.rpc_calls.specs.declared.intake_fault.IntakeFault.TheVariants as faults
 use Rattle.rpc_calls.specs.declared.item.Item.{Item}
 use Rattle.rpc_calls.specs.declared.side.Side.{Side}
 use Rattle.rpc_calls.specs.declared.side.Side.TheVariants.{Server}
 use Rattle.rpc_calls.specs.Intakes.{AtEnd, Holds, Kept, NextIs, NumbersAre, Stays, no_fault}
 use Rattle.rpc_calls.specs.Streams.{Items}
 use Rattle.rpc_assoc.specs.Association.{AsksFew}
-use Rattle.rpc_assoc.specs.State.{State}
+use Rattle.registry_server.specs.Answers.{answer_to, answers, text_of}
+use Rattle.registry_server.specs.Servers.{ServerState}
+use Rattle.clus_cli.specs.declared.connection.Drained.{Drained}
 use Rattle.clus_cli.specs.declared.connection.Reaction.{Reaction}
 use Rattle.clus_cli.specs.declared.connection.Reaction.TheVariants as reactions
-use Rattle.clus_cli.specs.declared.connection.Drained.TheVariants as ends
-use Rattle.clus_cli.specs.Connections.{AnswersItem, AreAnswered, Follows, FollowsSome, IsDrained, Reacts}
-use Rattle.clus_cli.specs.Session.{answer_to, answers, text_of}
-use Rattle.clus_cli.proofs.AnswerLaws.{answers-append, answers-item, some_of_more, some_then, wrote_nothing, wrote_then}
+use Rattle.clus_cli.specs.Connections.{AnswersItem, AreLast, Follows, FollowsSome, IsDrained, Reacts}
+use Rattle.clus_cli.proofs.AnswerLaws.{answers-item}
 use Rattle.clus_cli.proofs.FewContexts.{last_few}
 
 abbrev pub an_item : Item → Result (Option Item) IntakeFault
@@ -41,19 +39,18 @@ item_few old new item (stream, given, follows) next =
     let holds : Holds new stream (given ++ item ∷ []) = next stream given follows.holds in
     last_few new.side holds.frames given item new.left holds.reads.runs
 
-pub reacts_item : (old new : Kept) (item : Item) (before now : State) (reaction : Reaction) → NextIs (an_item item) old new → Stays old new
+pub reacts_item : (old new : Kept) (item : Item) (before now : ServerState) (reaction : Reaction) → NextIs (an_item item) old new → Stays old new
     → AnswersItem before item now reaction → (stream : List ℕ) (given : List Item) → Follows old stream given → Reacts stream given before new now reaction
 reacts_item old new item before now (reactions.Answered bytes) next stays answered stream given follows =
     (item, follows_item old new item next stays stream given follows, answered.0, answered.1)
-reacts_item old new item before now reactions.NoMemory next stays answered stream given follows =
-    (item ∷ [], follows_item old new item next stays stream given follows)
+reacts_item old new item before now reactions.NoMemory next stays answered stream given follows = tt
 reacts_item old new item before now reactions.Waits next stays answered stream given follows = absurd answered
 reacts_item old new item before now reactions.Closed next stays answered stream given follows = absurd answered
 
 on_server : (side : Side) (stream : List ℕ) (given : List Item) (fault : Option IntakeFault) → side ≡ Server → Items side stream given fault → Items Server stream given fault
 on_server side stream given fault is items = subst (λ (s : Side). Items s stream given fault) is items
 
-pub reacts_none : (old new : Kept) (before : State) → NextIs no_more old new → NumbersAre no_more old new → Stays old new
+pub reacts_none : (old new : Kept) (before : ServerState) → NextIs no_more old new → NumbersAre no_more old new → Stays old new
     → (stream : List ℕ) (given : List Item) → Follows old stream given → Reacts stream given before new before reactions.Waits
 reacts_none old new before next numbers stays stream given follows =
     let now = next stream given follows.holds in
@@ -62,17 +59,11 @@ reacts_none old new before next numbers stays stream given follows =
     subst (λ (s : Side). AtEnd s stream given no_fault new.unprocessed new.unfinished) server (numbers stream given follows.holds) in
     (refl, record { holds = now.0; server = server }, record { items = on_server new.side stream given no_fault server now.1; waiting = waiting })
 
-pub reacts_no_memory : (old new : Kept) (before now : State) → NextIs (a_fault faults.Memory) old new → Stays old new
-    → (stream : List ℕ) (given : List Item) → Follows old stream given → Reacts stream given before new now reactions.NoMemory
-reacts_no_memory old new before now next stays stream given follows =
-    let server : new.side ≡ Server = stays.side ∙ follows.server in
-    ([], subst (λ (items : List Item). Follows new stream items) (sym (append-nil given)) (record { holds = next stream given follows.holds; server = server }))
-
 -- A fault of the stream closes the connection.
 abbrev pub Faulty : Kept → Kept → IntakeFault → Type 0
 Faulty old new fault = (stream : List ℕ) (given : List Item) → Holds old stream given → Items new.side stream given (Some fault)
 
-pub reacts_fault : (old new : Kept) (fault : IntakeFault) (before : State) → Faulty old new fault → Stays old new
+pub reacts_fault : (old new : Kept) (fault : IntakeFault) (before : ServerState) → Faulty old new fault → Stays old new
     → (stream : List ℕ) (given : List Item) → Follows old stream given → Reacts stream given before new before reactions.Closed
 reacts_fault old new fault before faulty stays stream given follows =
     let server : new.side ≡ Server = stays.side ∙ follows.server in
@@ -81,96 +72,75 @@ reacts_fault old new fault before faulty stays stream given follows =
 -- ---- the loop over items
 
 -- Some items were answered so far.
-abbrev pub Carries : Kept → State → Option (List ℕ) → Kept → State → Option (List ℕ) → Type 0
-Carries old before held kept now holds =
-    (stream : List ℕ) (given : List Item) → Follows old stream given → (more : List Item) × Follows kept stream (given ++ more) × AreAnswered more before now held holds
+pub record Carried (stream : List ℕ) (given : List Item) (before : ServerState) (kept : Kept) (now : ServerState) (text : List ℕ) : Type 0 where
+  pub more : List Item
+  pub follows : Follows kept stream (given ++ more)
+  pub replies : text ≡ (answers before more).0
+  pub state : now ≡ (answers before more).1
 
-pub begins : (kept : Kept) (s : State) (held : Option (List ℕ)) → Carries kept s held kept s held
+abbrev pub Carries : Kept → ServerState → Kept → ServerState → List ℕ → Type 0
+Carries old before kept now text = (stream : List ℕ) (given : List Item) → Follows old stream given → Carried stream given before kept now text
+
+pub begins : (kept : Kept) (s : ServerState) → Carries kept s kept s []
 unfolding answers
-begins kept s held stream given follows =
-    ([], subst (λ (items : List Item). Follows kept stream items) (sym (append-nil given)) follows, record { state = refl; wrote = wrote_nothing held })
+begins kept s stream given follows = record {
+  more = [];
+  follows = subst (λ (items : List Item). Follows kept stream items) (sym (append-nil given)) follows;
+  replies = refl;
+  state = refl;
+}
 
-pub still_some : (old : Kept) (before : State) (held : Option (List ℕ)) (kept : Kept) (now : State) (holds : Option (List ℕ)) → FollowsSome old
-    → Carries old before held kept now holds → FollowsSome kept
-still_some old before held kept now holds (stream, given, follows) carries =
+pub still_some : (old : Kept) (before : ServerState) (kept : Kept) (now : ServerState) (text : List ℕ) → FollowsSome old
+    → Carries old before kept now text → FollowsSome kept
+still_some old before kept now text (stream, given, follows) carries =
     let so_far = carries stream given follows in
-    (stream, given ++ so_far.0, so_far.1)
+    (stream, given ++ so_far.more, so_far.follows)
 
 -- What the reaction says, at any stream.
-abbrev pub ReactsAny : Kept → State → Kept → State → Reaction → Type 0
+abbrev pub ReactsAny : Kept → ServerState → Kept → ServerState → Reaction → Type 0
 ReactsAny old before kept now reaction = (stream : List ℕ) (given : List Item) → Follows old stream given → Reacts stream given before kept now reaction
 
-answered_more : (s mid now : State) (done : List Item) (item : Item) (held wrote holds : Option (List ℕ)) (text : List ℕ) → AreAnswered done s mid held wrote
-    → text ≡ text_of (answer_to mid item).0 → now ≡ (answer_to mid item).1 → Wrote wrote holds text → AreAnswered (done ++ item ∷ []) s now held holds
-answered_more s mid now done item held wrote holds text so_far text-is now-is one =
-    let all = answers-item s done item in
-    let mid-is : mid ≡ (answers s done).1 = so_far.state in
-    let state : now ≡ (answers s (done ++ item ∷ [])).1 =
-    now-is ∙ ap (λ (t : State). (answer_to t item).1) mid-is ∙ sym (ap (λ (x : List ℕ × State). x.1) all) in
-    let text-of : text ≡ text_of (answer_to (answers s done).1 item).0 = text-is ∙ ap (λ (t : State). text_of (answer_to t item).0) mid-is in
-    let both : Wrote held holds ((answers s done).0 ++ text) = wrote_then held wrote holds (answers s done).0 text so_far.wrote one in
-    let whole : (answers s done).0 ++ text ≡ (answers s (done ++ item ∷ [])).0 =
-    ap (λ (t : List ℕ). (answers s done).0 ++ t) text-of ∙ sym (ap (λ (x : List ℕ × State). x.0) all) in
-    record { state = state; wrote = subst (λ (t : List ℕ). Wrote held holds t) whole both }
-
-pub carries_on : (old : Kept) (s : State) (held : Option (List ℕ)) (kept : Kept) (mid : State) (wrote : Option (List ℕ)) (next : Kept) (now : State) (holds : Option (List ℕ)) (bytes : _)
-    → Carries old s held kept mid wrote → ReactsAny kept mid next now (reactions.Answered bytes) → Wrote wrote holds bytes.items → Carries old s held next now holds
-carries_on old s held kept mid wrote next now holds bytes carries reacts one stream given follows =
+pub carries_on : (old : Kept) (s : ServerState) (kept : Kept) (mid : ServerState) (text : List ℕ) (next : Kept) (now : ServerState) (bytes : _)
+    → Carries old s kept mid text → ReactsAny kept mid next now (reactions.Answered bytes) → Carries old s next now (text ++ bytes.items)
+carries_on old s kept mid text next now bytes carries reacts stream given follows =
     let so_far = carries stream given follows in
-    let done = so_far.0 in
-    let here = reacts stream (given ++ done) so_far.1 in
+    let done = so_far.more in
+    let here = reacts stream (given ++ done) so_far.follows in
     let item = here.0 in
+    let all = answers-item s done item in
     let assoc : (given ++ done) ++ item ∷ [] ≡ given ++ (done ++ item ∷ []) = append_assoc given done (item ∷ []) in
-    (done ++ item ∷ [], subst (λ (items : List Item). Follows next stream items) assoc here.1, answered_more s mid now done item held wrote holds bytes.items so_far.2 here.2 here.3 one)
+    let mid-is : mid ≡ (answers s done).1 = so_far.state in
+    let bytes-are : bytes.items ≡ text_of (answer_to (answers s done).1 item).0 = here.2 ∙ ap (λ (t : ServerState). text_of (answer_to t item).0) mid-is in
+    record {
+      more = done ++ item ∷ [];
+      follows = subst (λ (items : List Item). Follows next stream items) assoc here.1;
+      replies = ap (λ (t : List ℕ). t ++ bytes.items) so_far.replies ∙ ap (λ (t : List ℕ). (answers s done).0 ++ t) bytes-are
+          ∙ sym (ap (λ (x : List ℕ × ServerState). x.0) all);
+      state = here.3 ∙ ap (λ (t : ServerState). (answer_to t item).1) mid-is ∙ sym (ap (λ (x : List ℕ × ServerState). x.1) all);
+    }
 
 -- ---- the ends of the loop
 
-pub ends_waiting : (old : Kept) (s : State) (held : Option (List ℕ)) (kept : Kept) (mid : State) (wrote : Option (List ℕ)) (next : Kept) (now : State)
-    → Carries old s held kept mid wrote → ReactsAny kept mid next now reactions.Waits
-    → (stream : List ℕ) (given : List Item) → Follows old stream given → IsDrained stream given s held next now wrote ends.Waits
-ends_waiting old s held kept mid wrote next now carries reacts stream given follows =
-    let so_far = carries stream given follows in
-    let here = reacts stream (given ++ so_far.0) so_far.1 in
-    (so_far.0, here.1, here.2, subst (λ (t : State). AreAnswered so_far.0 s t held wrote) (sym here.0) so_far.2)
+abbrev pub DrainsAny : Kept → ServerState → Kept → ServerState → Drained → Type 0
+DrainsAny kept s new t drained = (stream : List ℕ) (given : List Item) → Follows kept stream given → IsDrained stream given s new t drained
 
-pub ends_closed : (old : Kept) (s : State) (held : Option (List ℕ)) (kept : Kept) (mid : State) (wrote : Option (List ℕ)) (next : Kept) (now : State)
-    → Carries old s held kept mid wrote → ReactsAny kept mid next now reactions.Closed
-    → (stream : List ℕ) (given : List Item) → Follows old stream given → IsDrained stream given s held next now wrote ends.Closed
-ends_closed old s held kept mid wrote next now carries reacts stream given follows =
+pub ends_waiting : (old : Kept) (s : ServerState) (kept : Kept) (mid : ServerState) (next : Kept) (now : ServerState) (drained : Drained) → drained.is_closed ≡ false
+    → Carries old s kept mid drained.replies.items → ReactsAny kept mid next now reactions.Waits → DrainsAny old s next now drained
+ends_waiting old s kept mid next now drained waits carries reacts stream given follows =
     let so_far = carries stream given follows in
-    let (same, (fault, items)) = reacts stream (given ++ so_far.0) so_far.1 in
-    (so_far.0, fault, items, subst (λ (t : State). AreAnswered so_far.0 s t held wrote) (sym same) so_far.2)
+    let here = reacts stream (given ++ so_far.more) so_far.follows in
+    let Last : Bool → Type 0 = λ b. AreLast b stream (given ++ so_far.more) next in
+    let last : AreLast drained.is_closed stream (given ++ so_far.more) next = subst Last (sym waits) (here.1, here.2) in
+    record { more = so_far.more; last = last; replies = so_far.replies; state = here.0 ∙ so_far.state }
 
--- What was written of the first items is a prefix of the answers to more of them.
-first_of_more : (s : State) (done more : List Item) (held wrote : Option (List ℕ)) → Wrote held wrote (answers s done).0 → WroteSome held wrote (answers s (done ++ more)).0
-first_of_more s done more held wrote one =
-    let all : (answers s (done ++ more)).0 ≡ (answers s done).0 ++ (answers (answers s done).1 more).0 = ap (λ (x : List ℕ × State). x.0) (answers-append s done more) in
-    subst (λ (t : List ℕ). WroteSome held wrote t) (sym all) (some_of_more held wrote (answers s done).0 (answers (answers s done).1 more).0 one)
-
-pub ends_no_memory : (old : Kept) (s : State) (held : Option (List ℕ)) (kept : Kept) (mid : State) (wrote : Option (List ℕ)) (next : Kept) (now : State)
-    → Carries old s held kept mid wrote → ReactsAny kept mid next now reactions.NoMemory
-    → (stream : List ℕ) (given : List Item) → Follows old stream given → IsDrained stream given s held next now wrote ends.NoMemory
-ends_no_memory old s held kept mid wrote next now carries reacts stream given follows =
+pub ends_closed : (old : Kept) (s : ServerState) (kept : Kept) (mid : ServerState) (next : Kept) (now : ServerState) (drained : Drained) → drained.is_closed ≡ true
+    → Carries old s kept mid drained.replies.items → ReactsAny kept mid next now reactions.Closed → DrainsAny old s next now drained
+ends_closed old s kept mid next now drained closed carries reacts stream given follows =
     let so_far = carries stream given follows in
-    let here = reacts stream (given ++ so_far.0) so_far.1 in
-    let assoc : (given ++ so_far.0) ++ here.0 ≡ given ++ (so_far.0 ++ here.0) = append_assoc given so_far.0 here.0 in
-    (so_far.0 ++ here.0, subst (λ (items : List Item). Follows next stream items) assoc here.1, first_of_more s so_far.0 here.0 held wrote so_far.2.wrote)
-
-pub ends_unwritten : (old : Kept) (s : State) (held : Option (List ℕ)) (kept : Kept) (mid : State) (wrote : Option (List ℕ)) (next : Kept) (now : State) (holds : Option (List ℕ)) (bytes : _)
-    → Carries old s held kept mid wrote → ReactsAny kept mid next now (reactions.Answered bytes) → WroteSome wrote holds bytes.items
-    → (stream : List ℕ) (given : List Item) → Follows old stream given → IsDrained stream given s held next now holds ends.WriteFault
-ends_unwritten old s held kept mid wrote next now holds bytes carries reacts some stream given follows =
-    let so_far = carries stream given follows in
-    let done = so_far.0 in
-    let here = reacts stream (given ++ done) so_far.1 in
-    let item = here.0 in
-    let assoc : (given ++ done) ++ item ∷ [] ≡ given ++ (done ++ item ∷ []) = append_assoc given done (item ∷ []) in
-    let mid-is : mid ≡ (answers s done).1 = so_far.2.state in
-    let text-of : bytes.items ≡ text_of (answer_to (answers s done).1 item).0 = here.2 ∙ ap (λ (t : State). text_of (answer_to t item).0) mid-is in
-    let whole : (answers s done).0 ++ bytes.items ≡ (answers s (done ++ item ∷ [])).0 =
-    ap (λ (t : List ℕ). (answers s done).0 ++ t) text-of ∙ sym (ap (λ (x : List ℕ × State). x.0) (answers-item s done item)) in
-    let both : WroteSome held holds ((answers s done).0 ++ bytes.items) = some_then held wrote holds (answers s done).0 bytes.items so_far.2.wrote some in
-    (done ++ item ∷ [], subst (λ (items : List Item). Follows next stream items) assoc here.1, subst (λ (t : List ℕ). WroteSome held holds t) whole both)
+    let here = reacts stream (given ++ so_far.more) so_far.follows in
+    let Last : Bool → Type 0 = λ b. AreLast b stream (given ++ so_far.more) next in
+    let last : AreLast drained.is_closed stream (given ++ so_far.more) next = subst Last (sym closed) here.1 in
+    record { more = so_far.more; last = last; replies = so_far.replies; state = here.0 ∙ so_far.state }
 
 pub stays_then : (a b c : Kept) → Stays a b → Stays b c → Stays a c
 stays_then a b c one two = record { side = two.side ∙ one.side; length = two.length ∙ one.length }

@@ -1,5 +1,5 @@
 -- The words of each command, and what `format` comes to.
-use Rattle.std.specs.Prelude.{◌≡◌, ℕ, ◌<◌, ◌≤◌, IsTrue, List, [], ◌∷◌, ◌++◌, codes, Result, Ok, Err, ⊤}
+use Rattle.std.specs.Prelude.{◌≡◌, ℕ, ◌<◌, ◌≤◌, IsTrue, List, [], ◌∷◌, ◌++◌, codes, slice_index}
 use Rattle.std.specs.Fmt.{decimal}
 use Rattle.causes.specs.Counts.{Rose}
 use Rattle.wire_fields.specs.declared.endian.Endian.TheVariants.{Little}
@@ -14,11 +14,28 @@ use Rattle.clus_cli.specs.declared.status.Status.TheVariants as statuses
 abbrev pub AsksSession : List (List ℕ) → Type 0
 AsksSession words = words ≡ codes "session" ∷ []
 
+-- The address is any word that isn't an option.
+abbrev pub IsAddress : List ℕ → Type 0
+IsAddress address = ¬ (slice_index address 0 ≡ 45)
+
+-- How many connections may be asked for.
+abbrev pub IsCount : ℕ → Type 0
+IsCount count = (0 < count) × (count ≤ 65_535)
+
+-- Numbers are written in decimal, without a sign or a leading zero.
+abbrev pub AsksServe : List (List ℕ) → List ℕ → ℕ → Type 0
+AsksServe words address count = (words ≡ codes "serve" ∷ address ∷ decimal count ∷ []) × IsAddress address × IsCount count
+
+abbrev pub AsksServeOf : List (List ℕ) → ℕ → Type 0
+AsksServeOf words count = (address : List ℕ) × AsksServe words address count
+
+abbrev pub AsksSomeServe : List (List ℕ) → Type 0
+AsksSomeServe words = (count : ℕ) × AsksServeOf words count
+
 -- The greatest sizes that a registry may be given, in bytes.
 abbrev pub IsCap : ℕ → Type 0
 IsCap cap = (4096 ≤ cap) × (cap ≤ 16_777_216)
 
--- The number is written in decimal, without a sign or a leading zero.
 abbrev pub AsksFormat : List (List ℕ) → ℕ → Type 0
 AsksFormat words cap = (words ≡ codes "format" ∷ decimal cap ∷ []) × IsCap cap
 

@@ -1,50 +1,20 @@
--- What `session` writes for a client's stream: the answer to each of its items, in turn.
-use Rattle.std.specs.Prelude.{◌≡◌, ◌⊎◌, ℕ, zero, ◌+◌, ◌<◌, List, [], ◌∷◌, ◌++◌, length, Option, Some, None}
+-- What `session` writes for a client's stream: the answers to its items, in turn.
+use Rattle.std.specs.Prelude.{◌≡◌, ◌⊎◌, ℕ, ◌+◌, ◌<◌, List, [], ◌++◌, length, Option, Some, None}
 use Rattle.causes.specs.Writing.{Wrote, WroteSome}
-use Rattle.rpc_pdu.specs.declared.pdu.Pdu.{Pdu}
-use Rattle.rpc_pdu.specs.Encoding.{spelling}
 use Rattle.rpc_calls.specs.declared.call.Call as calls
 use Rattle.rpc_calls.specs.declared.intake_fault.IntakeFault.{IntakeFault}
 use Rattle.rpc_calls.specs.declared.item.Item.{Item}
 use Rattle.rpc_calls.specs.declared.side.Side.TheVariants.{Server}
 use Rattle.rpc_calls.specs.Intakes.{most_unprocessed}
 use Rattle.rpc_calls.specs.Streams.{Items, Reads}
-use Rattle.rpc_assoc.specs.declared.assoc.AssocOut.{AssocOut}
-use Rattle.rpc_assoc.specs.declared.assoc.AssocOut.TheVariants.{Reply, Call, Nothing}
-use Rattle.rpc_assoc.specs.Answers.{fault_on}
-use Rattle.rpc_assoc.specs.Association.{group_wanted, step_of}
-use Rattle.rpc_assoc.specs.State.{State, unbound}
+use Rattle.registry_server.specs.Answers.{answers}
+use Rattle.registry_server.specs.Servers.{new_server}
 use Rattle.clus_cli.specs.declared.status.Status.{Status}
 use Rattle.clus_cli.specs.declared.status.Status.TheVariants as statuses
 
--- ---- the answer to an item
-
--- A bind that asks for a new group gets group 1. No other group has a connection.
-abbrev pub group_for : Option ℕ → Option ℕ
-group_for (Some zero) = Some 1
-group_for _ = None
-
--- There is no operation: a call is out of range, nca_s_op_rng_error.
-abbrev pub reply_in : AssocOut × State → Option Pdu × State
-reply_in (Reply reply, next) = (Some reply, next)
-reply_in (Call call, next) = (Some (fault_on call.call_id call.context 0x1C010002), next)
-reply_in (Nothing, next) = (None, next)
-
--- The reply, if there is one, and the state of the association behind it.
-unfoldable pub answer_to : State → Item → Option Pdu × State
-answer_to s item = reply_in (step_of s item (group_for (group_wanted s item)))
-
-abbrev pub text_of : Option Pdu → List ℕ
-text_of None = []
-text_of (Some reply) = spelling reply
-
--- The replies to the items, and the state behind them.
-unfoldable pub answers : State → List Item → List ℕ × State
-answers s [] = ([], s)
-answers s (item ∷ items) = (text_of (answer_to s item).0 ++ (answers (answer_to s item).1 items).0, (answers (answer_to s item).1 items).1)
-
+-- The answers of a new server, which is node 1.
 abbrev pub answer_text : List Item → List ℕ
-answer_text items = (answers unbound items).0
+answer_text items = (answers (new_server 1) items).0
 
 -- ---- the stream
 
@@ -100,5 +70,6 @@ Writes input before now _ = IsAnsweredInPart input before now
 abbrev pub SessionEnds : Status → Type 0
 SessionEnds statuses.Usage = ⊥
 SessionEnds statuses.DiskFault = ⊥
+SessionEnds (statuses.BadLog place) = ⊥
 SessionEnds (statuses.Fenced held) = ⊥
 SessionEnds _ = Unit {0}

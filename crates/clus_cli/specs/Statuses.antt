@@ -2,7 +2,7 @@
 use Rattle.std.specs.Prelude.{ℕ, List, [], ◌++◌, codes}
 use Rattle.std.specs.Fmt.{decimal}
 use Rattle.clus_cli.specs.declared.status.Status.{Status}
-use Rattle.clus_cli.specs.declared.status.Status.TheVariants.{Done, Usage, ReadFault, WriteFault, DiskFault, NoMemory, Fenced}
+use Rattle.clus_cli.specs.declared.status.Status.TheVariants.{Done, Usage, ReadFault, WriteFault, DiskFault, NoMemory, BadLog, Fenced}
 
 abbrev pub number_of : Status → ℕ
 number_of Done = 0
@@ -11,13 +11,15 @@ number_of ReadFault = 3
 number_of WriteFault = 4
 number_of DiskFault = 5
 number_of NoMemory = 6
+number_of (BadLog place) = 7
 number_of (Fenced held) = 9
 
 abbrev pub text_of : Status → List ℕ
 text_of Done = []
-text_of Usage = codes "usage: mscs session, format CAP"
+text_of Usage = codes "usage: mscs session, serve ADDR COUNT, format CAP, showlog"
 text_of ReadFault = codes "read fault"
 text_of WriteFault = codes "write fault"
 text_of DiskFault = codes "disk fault"
 text_of NoMemory = codes "no memory"
+text_of (BadLog place) = codes "bad log: place " ++ decimal place
 text_of (Fenced held) = codes "fenced by claim " ++ decimal held

@@ -4,11 +4,16 @@
 mod connection;
 mod piece;
 mod running;
+mod serving;
+mod showing;
 mod status;
 mod words;
 
 pub use running::run;
 pub use status::Status;
+pub use words::serve_count;
 
+#[cfg(test)]
+mod serving_tests;
 #[cfg(test)]
 mod tests;

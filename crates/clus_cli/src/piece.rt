@@ -1,16 +1,16 @@
 //! Taking a client's bytes, piece by piece.
 
-ghost use Rattle.std.specs.Prelude.{◌≡◌, ◌≤◌};
+ghost use Rattle.std.specs.Prelude.{◌≡◌, ◌≤◌, length};
 ghost use Rattle.causes.specs.Counts.{Rose};
 ghost use Rattle.rpc_calls.specs.Intakes.{stream_length};
-ghost use Rattle.clus_cli.specs.Pieces.{Takes};
-ghost use Rattle.clus_cli.specs.Session.{most_stream};
+ghost use Rattle.clus_cli.specs.Pieces.{Feeds, Takes};
+ghost use Rattle.clus_cli.specs.Session.{most_stream, piece_length};
 
 use edge_io::{Failed, Source};
 use rpc_calls::{FeedFault, Intake};
 
 /// How many bytes are read at once.
-const PIECE: usize = 4096;
+pub(crate) const PIECE: usize = 4096;
 
 /// How many bytes one connection may send.
 const MOST_STREAM: u64 = 1_073_741_824;
@@ -34,19 +34,26 @@ pub(crate) fn take_piece<S: Source>(input: &mut S, intake: &mut Intake, taken: &
     ensures cause { result ≡ Taken.ReadFault → Rose (S.faults input.old) (S.faults input.new) }
 {
     let mut buffer = [0u8; PIECE];
-    let count = match input.read(&mut buffer) {
-        Ok(count) => count,
-        Err(Failed) => return Taken::ReadFault,
-    };
-    if count == 0 {
+    match input.read(&mut buffer) {
+        Ok(count) => feed_piece(intake, taken, &buffer[..count]),
+        Err(Failed) => Taken::ReadFault,
+    }
+}
+
+/// Hands the piece to the intake, where there is room for a whole one; an empty piece is the end.
+pub(crate) fn feed_piece(intake: &mut Intake, taken: &mut u64, piece: &[u8]) -> Taken
+    requires counted { stream_length intake.old ≡ taken.old }
+    requires limit { taken.old ≤ most_stream }
+    requires size { length piece.now ≤ piece_length }
+    ensures { Feeds piece.now intake.old intake.new taken.old taken.new result }
+{
+    let size = piece.len() as u64;
+    if size == 0 || MOST_STREAM - *taken < size {
         return Taken::End;
     }
-    if MOST_STREAM - *taken < count as u64 {
-        return Taken::End;
-    }
-    match intake.feed(&buffer[..count]) {
+    match intake.feed(piece) {
         Ok(()) => {
-            *taken += count as u64;
+            *taken += size;
             Taken::Piece
         }
         Err(FeedFault::Backlog) => Taken::End,

@@ -1,48 +1,68 @@
 //! The top call.
 
-ghost use Rattle.std.specs.Prelude.{◌≡◌, ◌≢◌, ◌<◌, ◌≤◌, ◌↔◌, ℕ, map, IfSome, string_bytes};
+ghost use Rattle.std.specs.Prelude.{◌≡◌, ◌≢◌, ◌<◌, ◌≤◌, ◌↔◌, ◌⊎◌, ℕ, List, map, IfSome, string_bytes};
 ghost use Rattle.causes.specs.Counts.{Rose};
-ghost use Rattle.clus_cli.specs.Commands.{AsksSession, AsksFormat, AsksSomeFormat, IsCap, FormatRuns};
+ghost use Rattle.edge_io.specs.Visits.{Tells};
+ghost use Rattle.clus_cli.specs.Commands.{AsksSession, AsksServe, AsksSomeServe, AsksFormat, AsksSomeFormat, IsCap, FormatRuns};
+ghost use Rattle.clus_cli.specs.Serving.{Serves};
 ghost use Rattle.clus_cli.specs.Session.{SessionEnds, Writes};
+ghost use Rattle.clus_cli.specs.Showlog.{AsksShowlog, ShowRuns};
 
-use crate::connection::{Drained, drain};
+use crate::connection::{NODE, drain};
 use crate::piece::{Taken, take_piece};
+use crate::serving::serve;
+use crate::showing::show_log;
 use crate::status::Status;
-use crate::words::{format_cap, is_session};
+use crate::words::{format_cap, is_session, is_showlog, serve_count};
 use disk_core::{Disk, DiskFault};
-use edge_io::{Sink, Source};
+use edge_io::{Door, Failed, Sink, Source, write_whole};
 use quorum_log::format;
-use rpc_assoc::Assoc;
+use registry_server::Server;
 use rpc_calls::{Intake, Side};
-use std::alloc::Global;
+use std::alloc::{AllocError, Global};
 
 /// The state of a new log: the encoding of the empty registry.
 const EMPTY_REGISTRY: [u8; 16] = [0; 16];
 
-/// Runs the command that the words give (without the program's name), over any input, output and disk.
+/// Runs the command that the words give (without the program's name), over any input, output, disk and
+/// door.
 ///
-/// `session` reads one recorded client stream and writes the answers to it, each as soon as its item
-/// is whole. `format CAP` makes an empty log for a registry of at most CAP bytes, also over an old log.
-pub fn run<S: Source, K: Sink, D: Disk>(
+/// `session` reads one recorded client stream, piece by piece, and writes the answers to the items of
+/// each piece before it reads the next. `serve ADDR COUNT` does so for COUNT connections of the door at
+/// most, one after another; they share one registry. `format CAP` makes an empty log for a registry of
+/// at most CAP bytes, also over an old log. `showlog` prints the log.
+pub fn run<S: Source, K: Sink, D: Disk, G: Door>(
     alloc: Global,
     words: &[String],
     input: &mut S,
     output: &mut K,
     disk: &mut D,
+    door: &mut G,
 ) -> Status
     requires disk_size { 34_209_856 ≤ (D.view disk.old).size }
     ensures session { AsksSession (map string_bytes words.now) → IfSome (S.left input.old) (λ bytes. Writes bytes (K.written output.old) (K.written output.new) result) }
+    ensures serve { (address : List ℕ) (count : ℕ) → AsksServe (map string_bytes words.now) address count → Tells (G.visits door.old) (G.visits door.new) (Serves count result) }
     ensures format { (cap : ℕ) → AsksFormat (map string_bytes words.now) cap → FormatRuns cap (D.view disk.old) result (D.view disk.new) }
-    ensures usage { (result ≡ Status.Usage) ↔ (¬ AsksSession (map string_bytes words.now) × ¬ AsksSomeFormat (map string_bytes words.now)) }
-    ensures silent { ¬ AsksSession (map string_bytes words.now) → (S.left input.new ≡ S.left input.old) × (K.written output.new ≡ K.written output.old) }
-    ensures untouched { ¬ AsksSomeFormat (map string_bytes words.now) → D.view disk.new ≡ D.view disk.old }
-    ensures read { result ≡ Status.ReadFault → Rose (S.faults input.old) (S.faults input.new) }
+    ensures showlog { AsksShowlog (map string_bytes words.now) → ShowRuns (D.view disk.old) (K.written output.old) result (D.view disk.new) (K.written output.new) }
+    ensures usage { (result ≡ Status.Usage) ↔ (¬ AsksSession (map string_bytes words.now) × ¬ AsksSomeServe (map string_bytes words.now) × ¬ AsksSomeFormat (map string_bytes words.now) × ¬ AsksShowlog (map string_bytes words.now)) }
+    ensures unread { ¬ AsksSession (map string_bytes words.now) → S.left input.new ≡ S.left input.old }
+    ensures silent { ¬ AsksSession (map string_bytes words.now) → ¬ AsksShowlog (map string_bytes words.now) → K.written output.new ≡ K.written output.old }
+    ensures untouched { ¬ AsksSomeFormat (map string_bytes words.now) → ¬ AsksShowlog (map string_bytes words.now) → D.view disk.new ≡ D.view disk.old }
+    ensures unvisited { ¬ AsksSomeServe (map string_bytes words.now) → (G.visits door.new ≡ G.visits door.old) × (G.faults door.new ≡ G.faults door.old) }
+    ensures read { AsksSession (map string_bytes words.now) → result ≡ Status.ReadFault → Rose (S.faults input.old) (S.faults input.new) }
+    ensures accept { AsksSomeServe (map string_bytes words.now) → result ≡ Status.ReadFault → Rose (G.faults door.old).accept (G.faults door.new).accept }
     ensures write { result ≡ Status.WriteFault → Rose (K.faults output.old) (K.faults output.new) }
     ensures disk { result ≡ Status.DiskFault → Rose (D.view disk.old).faults (D.view disk.new).faults }
-    ensures fenced { (held : ℕ) → (result ≡ Status.Fenced held) ↔ (AsksSomeFormat (map string_bytes words.now) × (1 < (D.view disk.old).current.held) × (held ≡ (D.view disk.old).current.held)) }
+    ensures fenced { (held : ℕ) → (result ≡ Status.Fenced held) ↔ ((AsksSomeFormat (map string_bytes words.now) ⊎ AsksShowlog (map string_bytes words.now)) × (1 < (D.view disk.old).current.held) × (held ≡ (D.view disk.old).current.held)) }
 {
     if is_session(words) {
         return session(alloc, input, output);
+    }
+    if let Some(count) = serve_count(words) {
+        return serve(alloc, door, count);
+    }
+    if is_showlog(words) {
+        return show_log(alloc, output, disk);
     }
     match format_cap(words) {
         Some(cap) => format_log(disk, cap),
@@ -68,8 +88,11 @@ fn session<S: Source, K: Sink>(alloc: Global, input: &mut S, output: &mut K) -> 
     ensures read { result ≡ Status.ReadFault → Rose (S.faults input.old) (S.faults input.new) }
     ensures write { result ≡ Status.WriteFault → Rose (K.faults output.old) (K.faults output.new) }
 {
+    let mut server = match Server::new(alloc, NODE) {
+        Ok(server) => server,
+        Err(AllocError) => return Status::NoMemory,
+    };
     let mut intake = Intake::new(alloc, Side::Server);
-    let mut assoc = Assoc::new(alloc);
     let mut taken = 0;
     'pieces: loop {
         match take_piece(input, &mut intake, &mut taken) {
@@ -78,11 +101,16 @@ fn session<S: Source, K: Sink>(alloc: Global, input: &mut S, output: &mut K) -> 
             Taken::ReadFault => return Status::ReadFault,
             Taken::NoMemory => return Status::NoMemory,
         }
-        match drain(alloc, &mut intake, &mut assoc, output) {
-            Drained::Waits => {}
-            Drained::Closed => return Status::Done,
-            Drained::WriteFault => return Status::WriteFault,
-            Drained::NoMemory => return Status::NoMemory,
+        let drained = match drain(alloc, &mut intake, &mut server) {
+            Ok(drained) => drained,
+            Err(AllocError) => return Status::NoMemory,
+        };
+        match write_whole(output, &drained.replies) {
+            Ok(()) => {}
+            Err(Failed) => return Status::WriteFault,
+        }
+        if drained.is_closed {
+            return Status::Done;
         }
     }
 }

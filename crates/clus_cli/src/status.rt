@@ -6,11 +6,12 @@ use std::alloc::{AllocError, Global};
 /// How a run of the program ended.
 #[derive(Clone, Copy, Debug, PartialEq, Eq)]
 pub enum Status {
-    /// The input was read to its end, or to what ends it, and all was written.
+    /// The input was read to its end, or to what ends it, and all was written; or each connection
+    /// was served.
     Done,
     /// The words are no command.
     Usage,
-    /// The input could not be read.
+    /// The input could not be read, or no further connection could be accepted.
     ReadFault,
     /// The output could not be written.
     WriteFault,
@@ -18,6 +19,8 @@ pub enum Status {
     DiskFault,
     /// Memory ran out.
     NoMemory,
+    /// The disk holds no log, or one that is at fault at that place of its image.
+    BadLog { place: u64 },
     /// The disk holds a greater fencing token than the command's.
     Fenced { held: u32 },
 }
@@ -34,6 +37,7 @@ impl Status {
             Status::WriteFault => 4,
             Status::DiskFault => 5,
             Status::NoMemory => 6,
+            Status::BadLog { .. } => 7,
             Status::Fenced { .. } => 9,
         }
     }
@@ -44,11 +48,15 @@ impl Status {
     {
         match self {
             Status::Done => String::from_str(alloc, ""),
-            Status::Usage => String::from_str(alloc, "usage: mscs session, format CAP"),
+            Status::Usage => String::from_str(
+                alloc,
+                "usage: mscs session, serve ADDR COUNT, format CAP, showlog",
+            ),
             Status::ReadFault => String::from_str(alloc, "read fault"),
             Status::WriteFault => String::from_str(alloc, "write fault"),
             Status::DiskFault => String::from_str(alloc, "disk fault"),
             Status::NoMemory => String::from_str(alloc, "no memory"),
+            Status::BadLog { place } => format!(in alloc; "bad log: place {place}"),
             Status::Fenced { held } => format!(in alloc; "fenced by claim {held}"),
         }
     }

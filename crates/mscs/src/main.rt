@@ -1,9 +1,9 @@
-//! The program `mscs`: the commands of `clus_cli` over the standard streams and a file.
+//! The program `mscs`: the commands of `clus_cli` over the standard streams, a file and a TCP address.
 #![tactic(auto)]
 
-use clus_cli::{Status, run};
+use clus_cli::{Status, run, serve_count};
 use disk_core::FileDisk;
-use edge_io::{StdSink, StdSource};
+use edge_io::{StdSink, StdSource, TcpDoor};
 use std::alloc::AllocError;
 use std::process::ExitCode;
 use std::{env, io};
@@ -22,7 +22,7 @@ fn main(rt: HostRuntime) -> ExitCode {
     ExitCode::from(status.number())
 }
 
-/// Runs the command over the standard streams and the file of the log.
+/// Runs the command over the standard streams, the file of the log and the address that it names.
 fn run_words(rt: &HostRuntime, words: &[String]) -> Status {
     let path = match String::from_str(rt.alloc(), LOG) {
         Ok(path) => path,
@@ -31,7 +31,30 @@ fn run_words(rt: &HostRuntime, words: &[String]) -> Status {
     let mut input = StdSource::new(rt.stdin());
     let mut output = StdSink::new(rt.stdout());
     let mut disk = FileDisk::at(rt, path);
-    run(rt.alloc(), words, &mut input, &mut output, &mut disk)
+    let mut door = match door_for(rt, words) {
+        Ok(door) => door,
+        Err(AllocError) => return Status::NoMemory,
+    };
+    run(
+        rt.alloc(),
+        words,
+        &mut input,
+        &mut output,
+        &mut disk,
+        &mut door,
+    )
+}
+
+/// The connections that come to the address of `serve`; none where the words are another command.
+fn door_for<'a>(
+    rt: &'a HostRuntime,
+    words: &[String],
+) -> Result<TcpDoor<'a, HostRuntime>, AllocError> {
+    let (address, count) = match (serve_count(words), words.get(1)) {
+        (Some(count), Some(address)) => (address.as_str(), count),
+        _ => ("", 0),
+    };
+    Ok(TcpDoor::at(rt, String::from_str(rt.alloc(), address)?, count.into()))
 }
 
 /// The words behind the program's name. One that isn't UTF-8 makes them no command.

@@ -1,4 +1,4 @@
-use Rattle.std.proofs.Common.{rules, ◌≡◌, ◌<◌, ℕ, List, replicate, refl, ap, sym, ◌∙◌}
+use Rattle.std.proofs.Common.{◌≡◌, replicate, refl}
 use Rattle.wire_fields.specs.Numbers.{num}
 use Rattle.clus_cli.specs.Commands.{empty_registry}
 use Rattle.clus_cli.proofs.NumberLaws.{empty_formatted, empty_passes}

@@ -1,65 +1,103 @@
 use Rattle.std.proofs.Common.{arith}
 use Rattle.rpc_calls.specs.declared.side.Side.TheVariants.{Server}
 use Rattle.rpc_calls.proofs.HoldingLaws.{holds_nothing}
-use Rattle.clus_cli.proofs.ServeLaws.{breaks_off, closes, done_at, feeds, rests, some_stream, starts, stopped}
+use Rattle.registry_server.specs.Servers.{new_server}
+use Rattle.clus_cli.proofs.ServeLaws.{Serving, breaks_off, closes, feeds, rests, some_stream, starts, stops}
+use Rattle.clus_cli.proofs.SessionLaws.{Told, ToldInPart, all_is_some, closed, done_at, in_part, not_begun, nothing_yet, reads_more, writes_more, writes_some}
 use Rattle.clus_cli.proofs.running.session.Goals as goal
+
+pub returns-in-Err-clause-written : goal.returns-in-Err-clause-written
+returns-in-Err-clause-written g c = not_begun (g.S.Source.left c.args.input.now) (g.K.Sink.written c.args.output.now) (holds_nothing Server)
 
 pub pieces-init : goal.pieces-init
 pieces-init g c =
-    rw (c.new-intake.ensures.starts, c.new-assoc.ensures)
-    (record { resting = starts (g.S.Source.left c.args.input.now) (g.K.Sink.written c.args.output.now) (holds_nothing Server); later_in = omega arith; later_out = omega arith })
+    rw (c.new-intake.ensures.starts, c.in-Ok.ensures)
+    (record {
+      resting = starts (new_server 1) _ (holds_nothing Server) (nothing_yet (g.S.Source.left c.args.input.now) (g.K.Sink.written c.args.output.now));
+      later_in = omega arith;
+      later_out = omega arith;
+    })
 
 pub returns-in-End-clause-written : goal.returns-in-End-clause-written
 returns-in-End-clause-written g c =
     let takes = c.in-End.ensures.takes in
     done_at (g.S.Source.left c.args.input.now) (g.S.Source.left c.pieces.input) (g.S.Source.left c.take_piece.new.input) (g.K.Sink.written c.args.output.now) (g.K.Sink.written c.pieces.output)
-    c.pieces.intake c.pieces.assoc c.pieces.taken takes.0 c.pieces.invariant.resting takes.1 takes.2
+    c.pieces.intake c.pieces.server c.pieces.taken takes.0 c.pieces.invariant.resting takes.1 takes.2
 
 pub returns-in-ReadFault-clause-written : goal.returns-in-ReadFault-clause-written
 returns-in-ReadFault-clause-written g c =
-    stopped (g.S.Source.left c.args.input.now) (g.S.Source.left c.pieces.input) (g.K.Sink.written c.args.output.now) (g.K.Sink.written c.pieces.output)
-    c.pieces.intake c.pieces.assoc c.pieces.taken c.pieces.invariant.resting.serving
+    in_part (g.S.Source.left c.args.input.now) (g.S.Source.left c.pieces.input) (g.K.Sink.written c.args.output.now) (g.K.Sink.written c.pieces.output) c.pieces.server
+    (stops (new_server 1) _ _ c.pieces.intake c.pieces.server c.pieces.taken c.pieces.invariant.resting.serving
+    (all_is_some (g.S.Source.left c.args.input.now) (g.S.Source.left c.pieces.input) (g.K.Sink.written c.args.output.now) (g.K.Sink.written c.pieces.output)))
 
 pub returns-in-NoMemory-clause-written : goal.returns-in-NoMemory-clause-written
 returns-in-NoMemory-clause-written g c =
-    stopped (g.S.Source.left c.args.input.now) (g.S.Source.left c.pieces.input) (g.K.Sink.written c.args.output.now) (g.K.Sink.written c.pieces.output)
-    c.pieces.intake c.pieces.assoc c.pieces.taken c.pieces.invariant.resting.serving
+    in_part (g.S.Source.left c.args.input.now) (g.S.Source.left c.pieces.input) (g.K.Sink.written c.args.output.now) (g.K.Sink.written c.pieces.output) c.pieces.server
+    (stops (new_server 1) _ _ c.pieces.intake c.pieces.server c.pieces.taken c.pieces.invariant.resting.serving
+    (all_is_some (g.S.Source.left c.args.input.now) (g.S.Source.left c.pieces.input) (g.K.Sink.written c.args.output.now) (g.K.Sink.written c.pieces.output)))
+
+pub returns-in-Err-drain-clause-written : goal.returns-in-Err-drain-clause-written
+returns-in-Err-drain-clause-written g c =
+    in_part (g.S.Source.left c.args.input.now) (g.S.Source.left c.pieces.input) (g.K.Sink.written c.args.output.now) (g.K.Sink.written c.pieces.output) c.pieces.server
+    (stops (new_server 1) _ _ c.pieces.intake c.pieces.server c.pieces.taken c.pieces.invariant.resting.serving
+    (all_is_some (g.S.Source.left c.args.input.now) (g.S.Source.left c.pieces.input) (g.K.Sink.written c.args.output.now) (g.K.Sink.written c.pieces.output)))
 
 pub drain-requires : goal.drain-requires
 drain-requires g c =
     let takes = c.in-Piece.ensures.takes in
-    let serving = feeds (g.S.Source.left c.args.input.now) (g.S.Source.left c.pieces.input) (g.S.Source.left c.take_piece.new.input) (g.K.Sink.written c.args.output.now) (g.K.Sink.written c.pieces.output)
-    c.pieces.intake c.take_piece.new.intake c.pieces.assoc c.pieces.taken c.take_piece.new.taken takes.0 c.pieces.invariant.resting.serving takes.1 takes.3 takes.4 takes.5 in
-    some_stream _ _ _ _ _ _ _ serving
+    let first = g.S.Source.left c.args.input.now in
+    let left = g.S.Source.left c.take_piece.new.input in
+    let held = g.K.Sink.written c.args.output.now in
+    let mid = g.K.Sink.written c.pieces.output in
+    let serving : Serving (new_server 1) (Told first left held mid) c.take_piece.new.intake c.pieces.server c.take_piece.new.taken =
+    feeds (new_server 1) (Told first (g.S.Source.left c.pieces.input) held mid) (Told first left held mid) c.pieces.intake c.take_piece.new.intake c.pieces.server c.pieces.taken c.take_piece.new.taken takes.0
+    c.pieces.invariant.resting.serving (reads_more first (g.S.Source.left c.pieces.input) left held mid takes.0 takes.1) takes.2.1 takes.2.2 takes.2.3 in
+    some_stream (new_server 1) (Told first left held mid) c.take_piece.new.intake c.pieces.server c.take_piece.new.taken serving
+
+pub returns-in-Err-write_whole-clause-written : goal.returns-in-Err-write_whole-clause-written
+returns-in-Err-write_whole-clause-written g c =
+    let takes = c.in-Piece.ensures.takes in
+    let first = g.S.Source.left c.args.input.now in
+    let left = g.S.Source.left c.take_piece.new.input in
+    let held = g.K.Sink.written c.args.output.now in
+    let mid = g.K.Sink.written c.pieces.output in
+    let serving : Serving (new_server 1) (Told first left held mid) c.take_piece.new.intake c.pieces.server c.take_piece.new.taken =
+    feeds (new_server 1) (Told first (g.S.Source.left c.pieces.input) held mid) (Told first left held mid) c.pieces.intake c.take_piece.new.intake c.pieces.server c.pieces.taken c.take_piece.new.taken takes.0
+    c.pieces.invariant.resting.serving (reads_more first (g.S.Source.left c.pieces.input) left held mid takes.0 takes.1) takes.2.1 takes.2.2 takes.2.3 in
+    let holds = g.K.Sink.written c.write_whole.new.sink in
+    in_part first left held holds c.drain.new.server
+    (breaks_off (new_server 1) (Told first left held mid) (ToldInPart first left held holds) c.take_piece.new.intake c.drain.new.intake c.pieces.server c.drain.new.server c.take_piece.new.taken c.in-Ok-drain.drained
+    serving c.in-Ok-drain.ensures.drained (writes_some first left held mid holds c.in-Ok-drain.drained.replies.items (rw c.deref.ensures.value at c.in-Err-write_whole.ensures.prefix)))
+
+pub returns-then-drained-clause-written : goal.returns-then-drained-clause-written
+returns-then-drained-clause-written g c =
+    let takes = c.in-Piece.ensures.takes in
+    let first = g.S.Source.left c.args.input.now in
+    let left = g.S.Source.left c.take_piece.new.input in
+    let held = g.K.Sink.written c.args.output.now in
+    let mid = g.K.Sink.written c.pieces.output in
+    let serving : Serving (new_server 1) (Told first left held mid) c.take_piece.new.intake c.pieces.server c.take_piece.new.taken =
+    feeds (new_server 1) (Told first (g.S.Source.left c.pieces.input) held mid) (Told first left held mid) c.pieces.intake c.take_piece.new.intake c.pieces.server c.pieces.taken c.take_piece.new.taken takes.0
+    c.pieces.invariant.resting.serving (reads_more first (g.S.Source.left c.pieces.input) left held mid takes.0 takes.1) takes.2.1 takes.2.2 takes.2.3 in
+    let holds = g.K.Sink.written c.write_whole.new.sink in
+    closed first left held holds c.drain.new.server
+    (closes (new_server 1) (Told first left held mid) (Told first left held holds) c.take_piece.new.intake c.drain.new.intake c.pieces.server c.drain.new.server c.take_piece.new.taken c.in-Ok-drain.drained
+    serving c.if-drained.true c.in-Ok-drain.ensures.drained (writes_more first left held mid holds c.in-Ok-drain.drained.replies.items (rw c.deref.ensures.value at c.in-Ok-write_whole.ensures.whole)))
 
 pub pieces-preserved : goal.pieces-preserved
 pieces-preserved g c =
     let takes = c.in-Piece.ensures.takes in
-    let serving = feeds (g.S.Source.left c.args.input.now) (g.S.Source.left c.pieces.input) (g.S.Source.left c.take_piece.new.input) (g.K.Sink.written c.args.output.now) (g.K.Sink.written c.pieces.output)
-    c.pieces.intake c.take_piece.new.intake c.pieces.assoc c.pieces.taken c.take_piece.new.taken takes.0 c.pieces.invariant.resting.serving takes.1 takes.3 takes.4 takes.5 in
+    let first = g.S.Source.left c.args.input.now in
+    let left = g.S.Source.left c.take_piece.new.input in
+    let held = g.K.Sink.written c.args.output.now in
+    let mid = g.K.Sink.written c.pieces.output in
+    let serving : Serving (new_server 1) (Told first left held mid) c.take_piece.new.intake c.pieces.server c.take_piece.new.taken =
+    feeds (new_server 1) (Told first (g.S.Source.left c.pieces.input) held mid) (Told first left held mid) c.pieces.intake c.take_piece.new.intake c.pieces.server c.pieces.taken c.take_piece.new.taken takes.0
+    c.pieces.invariant.resting.serving (reads_more first (g.S.Source.left c.pieces.input) left held mid takes.0 takes.1) takes.2.1 takes.2.2 takes.2.3 in
+    let holds = g.K.Sink.written c.write_whole.new.sink in
     record {
-      resting = rests _ _ _ _ (g.K.Sink.written c.drain.new.output) c.take_piece.new.intake c.drain.new.intake c.pieces.assoc c.drain.new.assoc c.take_piece.new.taken serving c.in-Waits.ensures.drained;
+      resting = rests (new_server 1) (Told first left held mid) (Told first left held holds) c.take_piece.new.intake c.drain.new.intake c.pieces.server c.drain.new.server c.take_piece.new.taken c.in-Ok-drain.drained
+          serving c.if-drained.false c.in-Ok-drain.ensures.drained (writes_more first left held mid holds c.in-Ok-drain.drained.replies.items (rw c.deref.ensures.value at c.in-Ok-write_whole.ensures.whole));
       later_in = omega (arith, c.pieces.invariant.later_in, c.in-Piece.ensures.later);
-      later_out = omega (arith, c.pieces.invariant.later_out, c.in-Waits.ensures.later);
+      later_out = omega (arith, c.pieces.invariant.later_out, c.in-Ok-write_whole.ensures.cause.later);
     }
-
-pub returns-in-Closed-clause-written : goal.returns-in-Closed-clause-written
-returns-in-Closed-clause-written g c =
-    let takes = c.in-Piece.ensures.takes in
-    let serving = feeds (g.S.Source.left c.args.input.now) (g.S.Source.left c.pieces.input) (g.S.Source.left c.take_piece.new.input) (g.K.Sink.written c.args.output.now) (g.K.Sink.written c.pieces.output)
-    c.pieces.intake c.take_piece.new.intake c.pieces.assoc c.pieces.taken c.take_piece.new.taken takes.0 c.pieces.invariant.resting.serving takes.1 takes.3 takes.4 takes.5 in
-    closes _ _ _ _ (g.K.Sink.written c.drain.new.output) c.take_piece.new.intake c.drain.new.intake c.pieces.assoc c.drain.new.assoc c.take_piece.new.taken serving c.in-Closed.ensures.drained
-
-pub returns-in-WriteFault-clause-written : goal.returns-in-WriteFault-clause-written
-returns-in-WriteFault-clause-written g c =
-    let takes = c.in-Piece.ensures.takes in
-    let serving = feeds (g.S.Source.left c.args.input.now) (g.S.Source.left c.pieces.input) (g.S.Source.left c.take_piece.new.input) (g.K.Sink.written c.args.output.now) (g.K.Sink.written c.pieces.output)
-    c.pieces.intake c.take_piece.new.intake c.pieces.assoc c.pieces.taken c.take_piece.new.taken takes.0 c.pieces.invariant.resting.serving takes.1 takes.3 takes.4 takes.5 in
-    breaks_off _ _ _ _ (g.K.Sink.written c.drain.new.output) c.take_piece.new.intake c.drain.new.intake c.pieces.assoc c.take_piece.new.taken serving (c.in-WriteFault.ensures.drained serving.stream serving.given serving.follows)
-
-pub returns-in-NoMemory-drain-clause-written : goal.returns-in-NoMemory-drain-clause-written
-returns-in-NoMemory-drain-clause-written g c =
-    let takes = c.in-Piece.ensures.takes in
-    let serving = feeds (g.S.Source.left c.args.input.now) (g.S.Source.left c.pieces.input) (g.S.Source.left c.take_piece.new.input) (g.K.Sink.written c.args.output.now) (g.K.Sink.written c.pieces.output)
-    c.pieces.intake c.take_piece.new.intake c.pieces.assoc c.pieces.taken c.take_piece.new.taken takes.0 c.pieces.invariant.resting.serving takes.1 takes.3 takes.4 takes.5 in
-    breaks_off _ _ _ _ (g.K.Sink.written c.drain.new.output) c.take_piece.new.intake c.drain.new.intake c.pieces.assoc c.take_piece.new.taken serving (c.in-NoMemory-drain.ensures.drained serving.stream serving.given serving.follows)

@@ -1,4 +1,4 @@
-use Rattle.std.proofs.Common.{rules, ◌≡◌, ◌<◌, ℕ, Some, Ok, Err, ap, sym, ◌∙◌}
+use Rattle.std.proofs.Common.{rules}
 use Rattle.clus_cli.proofs.NumberLaws.{read_word, begins_above, word_read, one_number, no_error}
 use Rattle.clus_cli.proofs.words.positive_number.Goals as goal
 

@@ -1,0 +1,36 @@
+use Rattle.std.proofs.Common.{refl, inl, inr}
+use Rattle.clus_cli.specs.Showlog.{IsRefused, lines_of}
+use Rattle.clus_cli.proofs.BadLogs.{refused_at, shown_at}
+use Rattle.clus_cli.proofs.ShowLaws.{printed_err}
+use Rattle.clus_cli.proofs.showing.show_log.Goals as goal
+
+pub returns-in-Err-clause-runs : goal.returns-in-Err-clause-runs
+returns-in-Err-clause-runs g c =
+    let v = g.D.Disk.view c.args.disk.now in
+    let w = g.D.Disk.view c.open_log.new.disk in
+    let held = g.K.Sink.written c.args.output.now in
+    let refused : IsRefused v held c.in-Err.status w held = record { why = c.in-Err.ensures.refused; silent = refl } in
+    record {
+      ends = inl refused;
+      exact = λ told place bad. refused_at v held c.in-Err.status w held place told (g.met.D.Disk.whole c.args.disk.now told) refused bad;
+      unchanged = c.in-Err.ensures.unchanged;
+    }
+
+pub returns-in-Ok-print_log-clause-runs : goal.returns-in-Ok-print_log-clause-runs
+returns-in-Ok-print_log-clause-runs g c =
+    let found = c.in-Ok.ensures.found in
+    record {
+      ends = inr (record { held_before = found.held_before; held = found.held; log = c.in-Ok.found; good = found.good; prints = c.in-Ok-print_log.ensures.prints });
+      exact = λ told place bad. shown_at (g.D.Disk.view c.args.disk.now) c.in-Ok.found place told (g.met.D.Disk.whole c.args.disk.now told) found.good bad;
+      unchanged = c.in-Ok.ensures.unchanged;
+    }
+
+pub returns-clause-runs : goal.returns-clause-runs
+returns-clause-runs g c =
+    let found = c.in-Ok.ensures.found in
+    let prints = printed_err (g.K.Sink.written c.args.output.now) (g.K.Sink.written c.print_log.new.output) (lines_of c.in-Ok.found) c.in-Err-print_log.status c.in-Err-print_log.ensures.prints in
+    record {
+      ends = inr (record { held_before = found.held_before; held = found.held; log = c.in-Ok.found; good = found.good; prints = prints });
+      exact = λ told place bad. shown_at (g.D.Disk.view c.args.disk.now) c.in-Ok.found place told (g.met.D.Disk.whole c.args.disk.now told) found.good bad;
+      unchanged = c.in-Ok.ensures.unchanged;
+    }
