@@ -1,0 +1,10 @@
+mod Steady
+mod ItemKinds
+mod ItemReads
+mod Goings
+mod Trees
+mod Feeding
+mod Reaching
+mod Pieces
+mod Building
+mod TreeLoops
