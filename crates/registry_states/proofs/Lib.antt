@@ -1,6 +1,15 @@
 pub mod Lasts
-pub mod Loops
-pub mod Outcomes
+pub mod Wholes
+pub mod Goings
+pub mod ItemReads
+pub mod ItemKinds
+pub mod Steady
+pub mod Reaching
+pub mod Feeding
+pub mod Pieces
+pub mod Trees
+pub mod TreeLoops
+pub mod Building
 pub mod FoundFields
 pub mod FoundValues
 pub mod FoundKeys

@@ -1,16 +1,13 @@
 -- What the readers of a state's parts give, unless memory ran out.
-use Rattle.std.specs.Prelude.{◌≡◌, ℕ, List, length, ◌&&◌, true, false, Option, Some, None, Result, Ok, Err, option_map, ◌==◌}
+use Rattle.std.specs.Prelude.{◌≡◌, ℕ, List, ◌&&◌, Option, Some, None, Result, Ok, Err, option_map}
 use Rattle.std.specs.List.{last_or}
 use Rattle.wire_fields.specs.Reading.{Reading}
 use Rattle.clus_names.specs.Limits.{lacks_zero}
-use Rattle.registry_defs.specs.Keys.{KeyData}
 use Rattle.registry_defs.specs.Nodes.{Node}
 use Rattle.registry_defs.specs.StateFields.{Stop, units_at}
 use Rattle.registry_defs.specs.StateFields as stops
 use Rattle.registry_defs.specs.StateGrammar.{is_above}
-use Rattle.registry_tree.specs.Values.{entries_of}
 use Rattle.registry_tree.specs.declared.value.Value.{Value}
-use Rattle.registry_states.specs.declared.decoding.KeyAlone.{KeyAlone}
 use Rattle.registry_states.specs.declared.read_fault.ReadFault.{ReadFault}
 use Rattle.registry_states.specs.declared.read_fault.ReadFault.TheVariants.{Cut, Bad, Memory}
 
@@ -39,17 +36,3 @@ last_part subkeys = option_map (λ node. node.here.part) (last_or None subkeys)
 -- The name of a value behind the one with the name that is given.
 abbrev pub name_at : Option (List ℕ) → ℕ → Reading → Result (List ℕ × Reading) Stop
 name_at last end s = units_at 0 1023 (λ units. lacks_zero units && is_above last units) end s
-
--- A key without its name and its subkeys, as the definitions have it.
-abbrev pub key_data : List ℕ → KeyAlone → KeyData
-key_data part key = record { part = part; birth = key.birth; written = key.written; values = entries_of key.values.items }
-
--- Nothing is left to read.
-abbrev pub Ends : {T : Type 0} → Result T ReadFault → Reading → Type 0
-Ends (Ok x) s = (length s.left == 0) ≡ true
-Ends (Err (Bad place)) s = ((length s.left == 0) ≡ false) × (place ≡ s.place)
-Ends (Err fault) s = ⊥
-
-abbrev pub Reads : Result Node ReadFault → Result Node Stop → Type 0
-Reads (Ok root) read = read ≡ Ok root
-Reads (Err fault) read = FailsAt fault read

@@ -1,7 +1,6 @@
 -- What reading a state gives.
 use Rattle.std.specs.Prelude.{◌≡◌, ◌⊎◌, ℕ, Result, Ok, Err}
-use Rattle.registry_defs.specs.Keys.{Keys}
-use Rattle.registry_defs.specs.Nodes.{Node, keys_of}
+use Rattle.registry_defs.specs.Nodes.{Node}
 use Rattle.registry_defs.specs.StateFields.{Stop, Cut, Bad}
 use Rattle.registry_states.specs.declared.fault.StateFault.{StateFault}
 use Rattle.registry_states.specs.declared.fault.StateFault.TheVariants as faults
@@ -15,9 +14,3 @@ abbrev pub Decodes : Result Node StateFault → Result Node Stop → Type 0
 Decodes (Ok root) read = read ≡ Ok root
 Decodes (Err (faults.Bad place)) read = IsFaultAt place read
 Decodes (Err faults.Memory) read = Unit {0}
-
--- The keys, unless memory ran out.
-abbrev pub GivesKeys : Result Node StateFault → Keys → Type 0
-GivesKeys (Ok root) keys = keys_of root ≡ keys
-GivesKeys (Err faults.Memory) keys = Unit {0}
-GivesKeys (Err (faults.Bad place)) keys = ⊥

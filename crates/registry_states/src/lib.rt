@@ -1,12 +1,18 @@
-//! Registries from their one encoding, which is called a state.
+//! Registries from their one encoding, which is called a state and may come in pieces.
 #![tactic(auto)]
 
-mod decoding;
+mod ahead;
+mod assembling;
+mod build;
 mod fault;
+mod item;
 mod laws;
 mod read_fault;
 mod reading;
+mod standing;
+mod taking;
+mod turning;
 
-pub use decoding::decode_state;
+pub use build::TreeBuild;
 pub use fault::StateFault;
 pub use laws::{what_is_read_is_spelled, what_is_spelled_is_read};

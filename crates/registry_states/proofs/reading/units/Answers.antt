@@ -1,7 +1,7 @@
 use Rattle.std.proofs.Common.{sym, ◌∷◌, [], length-append, arith}
 use Rattle.wire_fields.specs.Reading.{number_at, times}
 use Rattle.wire_fields.proofs.ListLaws.{goes_on, ends, is_done}
-use Rattle.registry_states.proofs.Loops.{whole_cut, whole_read}
+use Rattle.registry_states.proofs.Wholes.{whole_cut, whole_read}
 use Rattle.registry_states.proofs.reading.units.Goals as goal
 
 pub returns-in-Err-clause-taken : goal.returns-in-Err-clause-taken

@@ -1,5 +1,0 @@
-use Rattle.std.proofs.Common.{◌≡◌, take}
-use Rattle.state_pieces.proofs.ahead.copied.Given as goal
-
-abbrev pub invariant-levels : goal.invariant-levels
-invariant-levels l = l.items.items ≡ take l.level-index l.levels

@@ -1,8 +1,0 @@
-use Rattle.state_pieces.proofs.Building.{first_kept, first_stands}
-use Rattle.state_pieces.proofs.build.StateBuild.new.Goals as goal
-
-pub invariant_of-result : goal.invariant_of-result
-invariant_of-result c = rw (c.new.ensures.items, c.new-2.ensures) (first_kept c.args.cap c.requires.most)
-
-pub returns-clause-fed : goal.returns-clause-fed
-returns-clause-fed c = rw (c.new.ensures.items, c.new-2.ensures) (first_stands c.args.cap)

@@ -1,9 +1,0 @@
-use Rattle.state_pieces.specs.Turns.{weight}
-use Rattle.state_pieces.proofs.Reaching.{Kept}
-use Rattle.state_pieces.proofs.turning.read_items.Given as goal
-
-abbrev pub invariant-items : goal.invariant-items
-invariant-items l = Kept l.end l.initial.items.items l.initial.ahead l.initial.fields l.items.items l.ahead l.fields
-
-abbrev pub decreases-items : goal.decreases-items
-decreases-items l = weight l.ahead l.fields
