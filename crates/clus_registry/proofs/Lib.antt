@@ -8,3 +8,4 @@ pub mod Seen
 pub mod Verdicts
 pub mod Steps
 pub mod Batches
+pub mod Finishing

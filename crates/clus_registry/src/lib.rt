@@ -9,10 +9,12 @@ mod changing;
 mod outcomes;
 mod reading;
 mod registry;
+mod state_build;
 
 pub use registry::Registry;
 pub use registry_defs::{Info, Outcome};
 pub use registry_states::StateFault;
+pub use state_build::StateBuild;
 
 #[cfg(test)]
 mod state_tests;

@@ -8,7 +8,8 @@ ghost use Rattle.registry_defs.specs.Sizes.{size};
 ghost use Rattle.registry_defs.specs.Spelling.{registry_text};
 ghost use Rattle.clus_registry.specs.States.{FailsOn, GivesKeys, IsReadFrom};
 
-use registry_states::{StateFault, decode_state};
+use crate::state_build::StateBuild;
+use registry_states::StateFault;
 use registry_tree::Key;
 use std::alloc::{AllocError, Global};
 use std::marker::Model;
@@ -64,13 +65,9 @@ impl Registry {
         // Which field is at fault.
         ensures fault { IfErr result (FailsOn cap bytes.now) }
     {
-        let root = decode_state(alloc, bytes, cap)?;
-        Ok(Registry {
-            alloc,
-            root,
-            size: bytes.len() as u32,
-            cap,
-        })
+        let mut build = StateBuild::new(alloc, cap);
+        build.feed(bytes)?;
+        build.finish()
     }
 
     /// How many bytes its encoding has, which the cap bounds.

@@ -1,8 +1,8 @@
 //! Which bytes are read as a registry, and which field of all others is at fault.
 
-ghost use Rattle.std.specs.Prelude.{◌≤◌};
+ghost use Rattle.std.specs.Prelude.{◌<◌, ◌≤◌};
 
-use crate::{Registry, StateFault};
+use crate::{Registry, StateBuild, StateFault};
 use std::alloc::{AllocError, Global};
 use std::test::Fail;
 use wire_fields::{Endian, Put};
@@ -95,15 +95,62 @@ fn edited(alloc: Global, edits: &[(usize, u8)]) -> Result<Vec<u8>, AllocError> {
 }
 
 /// Where the first field at fault starts, if there is one.
-fn fault_in(alloc: Global, bytes: &[u8], cap: u32) -> Result<Option<usize>, Fail>
-    requires least { 4096 ≤ cap }
-    requires most { cap ≤ 16777216 }
-{
-    match Registry::from_bytes(alloc, bytes, cap) {
+fn place_in<T: Drop>(told: Result<T, StateFault>) -> Result<Option<usize>, Fail> {
+    match told {
         Ok(_) => Ok(None),
         Err(StateFault::Bad { place }) => Ok(Some(place)),
         Err(StateFault::Memory) => Err(Fail::new("no memory")),
     }
+}
+
+/// The place that the last piece of so many bytes is refused with, and the one that all of them give.
+fn faults_in_pieces(
+    alloc: Global,
+    bytes: &[u8],
+    cap: u32,
+    count: usize,
+) -> Result<[Option<usize>; 2], Fail>
+    requires least { 4096 ≤ cap }
+    requires most { cap ≤ 16777216 }
+    requires some { 0 < count }
+{
+    let mut build = StateBuild::new(alloc, cap);
+    let mut refused = None;
+    for piece in bytes.chunks(count) {
+        let place = place_in(build.feed(piece))?;
+        if refused.is_some() && place != refused {
+            return Err(Fail::new("another fault behind the first"));
+        }
+        refused = place;
+    }
+    Ok([refused, place_in(build.finish())?])
+}
+
+/// The same, where the whole bytes and pieces of 1 and 7 give one place.
+fn fault_in(alloc: Global, bytes: &[u8], cap: u32) -> Result<Option<usize>, Fail>
+    requires least { 4096 ≤ cap }
+    requires most { cap ≤ 16777216 }
+{
+    let place = place_in(Registry::from_bytes(alloc, bytes, cap))?;
+    let [_, by_one] = faults_in_pieces(alloc, bytes, cap, 1)?;
+    let [_, by_seven] = faults_in_pieces(alloc, bytes, cap, 7)?;
+    if by_one != place || by_seven != place {
+        return Err(Fail::new("another fault in pieces"));
+    }
+    Ok(place)
+}
+
+/// How many bytes wait after each piece of so many, and the state that is written again.
+fn in_pieces(alloc: Global, bytes: &[u8], count: usize) -> Result<(Vec<u32>, Vec<u8>), Fail>
+    requires some { 0 < count }
+{
+    let mut build = StateBuild::new(alloc, 65_536);
+    let mut pending = Vec::new(alloc);
+    for piece in bytes.chunks(count) {
+        build.feed(piece)?;
+        pending.push(build.pending())?;
+    }
+    Ok((pending, build.finish()?.to_bytes()?))
 }
 
 fn again(alloc: Global, bytes: &[u8]) -> Result<Vec<u8>, Fail> {
@@ -114,6 +161,35 @@ fn again(alloc: Global, bytes: &[u8]) -> Result<Vec<u8>, Fail> {
 fn a_state_is_read_and_written_again(rt: HostRuntime) -> Result<(), Fail> {
     let alloc = rt.alloc();
     assert_eq!(rt; again(alloc, &STATE)?.as_slice(), STATE.as_slice());
+    for count in [1, 7] {
+        assert_eq!(rt;
+            in_pieces(alloc, &STATE, count)?.1.as_slice(),
+            STATE.as_slice()
+        );
+    }
+    Ok(())
+}
+
+/// A root with the values `V` of 4,972 bytes and `W` of 4,988.
+#[test]
+fn a_state_in_three_pieces(rt: HostRuntime) -> Result<(), Fail> {
+    let alloc = rt.alloc();
+    let mut put = Put::new(alloc, Endian::Little);
+    put.u64(0)?;
+    put.u32(2)?;
+    for (name, count) in [(0x56, 4972), (0x57, 4988)] {
+        put.u16(1)?;
+        put.u16(name)?;
+        put.u32(3)?;
+        put.u32(count)?;
+        put.bytes(&vec![in alloc; 7u8; count as usize]?)?;
+    }
+    put.u32(0)?;
+    let bytes = put.into_bytes();
+    assert_eq!(rt; bytes.len(), 10_000);
+    let (pending, written) = in_pieces(alloc, &bytes, 4096)?;
+    assert_eq!(rt; pending.as_slice(), [4084, 3196, 0].as_slice());
+    assert_eq!(rt; written.as_slice(), bytes.as_slice());
     Ok(())
 }
 
@@ -123,6 +199,8 @@ fn states_with_a_field_at_fault(rt: HostRuntime) -> Result<(), Fail> {
     for (edits, place) in EDITED {
         assert_eq!(rt; fault_in(alloc, &edited(alloc, edits)?, 4096)?, Some(place));
     }
+    let bytes = edited(alloc, &[(54, 0)])?;
+    assert_eq!(rt; faults_in_pieces(alloc, &bytes, 4096, 7)?, [Some(54); 2]);
     Ok(())
 }
 
@@ -130,14 +208,18 @@ fn states_with_a_field_at_fault(rt: HostRuntime) -> Result<(), Fail> {
 fn states_that_are_cut_off_or_go_on(rt: HostRuntime) -> Result<(), Fail> {
     let alloc = rt.alloc();
     for (length, place) in CUT {
+        let bytes = &STATE[..length.min(120)];
+        assert_eq!(rt; fault_in(alloc, bytes, 4096)?, Some(place));
+        // more bytes might mend it
         assert_eq!(rt;
-            fault_in(alloc, &STATE[..length.min(120)], 4096)?,
-            Some(place)
+            faults_in_pieces(alloc, bytes, 4096, 7)?,
+            [None, Some(place)]
         );
     }
     let mut longer = STATE.to_vec(alloc)?;
     longer.push(0)?;
     assert_eq!(rt; fault_in(alloc, &longer, 4096)?, Some(120));
+    assert_eq!(rt; faults_in_pieces(alloc, &longer, 4096, 7)?, [Some(120); 2]);
     Ok(())
 }
 
@@ -202,8 +284,8 @@ fn paths_at_their_limit_and_past_it(rt: HostRuntime) -> Result<(), Fail> {
         (&[1; 513], 10_256),
     ];
     for (names, place) in rows {
-        let bytes = chain(alloc, names)?;
-        assert_eq!(rt; fault_in(alloc, &bytes, 1_048_576)?, Some(place));
+        let told = Registry::from_bytes(alloc, &chain(alloc, names)?, 1_048_576);
+        assert_eq!(rt; place_in(told)?, Some(place));
     }
     Ok(())
 }

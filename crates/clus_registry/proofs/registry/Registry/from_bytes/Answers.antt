@@ -1,36 +1,12 @@
-use Rattle.std.proofs.Common.{◌≤◌, length, refl, ap, subst, sym, ◌∙◌, arith}
-use Rattle.registry_defs.specs.Keys.{Keys}
-use Rattle.registry_defs.specs.Limits.{IsRegistry}
-use Rattle.registry_defs.specs.Nodes.{keys_of}
-use Rattle.registry_defs.specs.Sizes.{size}
-use Rattle.registry_defs.specs.Spelling.{registry_text}
-use Rattle.registry_defs.proofs.Lengths.{length-registry}
-use Rattle.clus_registry.proofs.Seen.{entries_are}
+use Rattle.std.proofs.Common.{[], ◌∙◌}
+use Rattle.std.proofs.lemmas.Result.{err_from_is_err_and}
+use Rattle.clus_registry.proofs.Finishing.{no_fault, refuses}
 use Rattle.clus_registry.proofs.registry.Registry.from_bytes.Goals as goal
 
-pub invariant_of-result : goal.invariant_of-result
-invariant_of-result c =
-    let found = c.in_ok-root.ensures.found in
-    record {
-      limits = found.registry;
-      counted = ap length found.text ∙ length-registry (keys_of c.in_ok-root.root);
-      fits = found.fits;
-      least = c.requires.least;
-      most = c.requires.most;
-    }
-
-pub returns-clause-found : goal.returns-clause-found
-returns-clause-found c =
-    let found = c.in_ok-root.ensures.found in
-    let same = sym (entries_are (keys_of c.in_ok-root.root) found.registry) in
-    let counted = ap length found.text ∙ length-registry (keys_of c.in_ok-root.root) in
-    let fits = found.fits in
-    record {
-      same_cap = refl;
-      limits = subst IsRegistry same found.registry;
-      text = found.text ∙ ap registry_text same;
-      fits = subst (λ (keys : Keys). size keys ≤ c.args.cap) same (omega (arith, counted, fits));
-    }
-
-pub returns-clause-only : goal.returns-clause-only
-returns-clause-only c = λ keys is fits text. entries_are (keys_of c.in_ok-root.root) c.in_ok-root.ensures.found.registry ∙ c.in_ok-root.ensures.only keys is fits text
+pub returns-in_err-feed-clause-only : goal.returns-in_err-feed-clause-only
+returns-in_err-feed-clause-only c =
+    let bytes = c.args.bytes.now in
+    let fault = c.in_err-feed.field-0.0 in
+    let fails = refuses c.feed.new.self c.args.cap bytes fault (c.in_err-feed.ensures.cap ∙ c.new-build.ensures.cap) (c.in_err-feed.ensures.fed [] c.new-build.ensures.fed) in
+    let p = err_from_is_err_and c.from_residual.result c.from_residual.ensures.1 in
+    rw (p.1, p.2) (λ keys is within text. no_fault c.args.cap bytes keys c.requires.most is within text fault fails)
