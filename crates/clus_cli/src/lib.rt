@@ -12,8 +12,3 @@ mod words;
 pub use running::run;
 pub use status::Status;
 pub use words::serve_count;
-
-#[cfg(test)]
-mod serving_tests;
-#[cfg(test)]
-mod tests;

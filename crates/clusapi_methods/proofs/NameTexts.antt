@@ -1,6 +1,6 @@
 -- The text of data, unit by unit.
 use Rattle.std.proofs.Common.{◌≡◌, ◌≢◌, ℕ, suc, ◌+◌, ◌-◌, ◌*◌, ◌<◌, ◌≤◌, ◌^◌, Bool, true, false, List, [], ◌∷◌, ◌++◌, length, take, drop, get_or, refl, sym, ap, ◌∙◌, subst, append_assoc, length-append, arith}
-use Rattle.std.specs.Prelude.{◌==◌, nat_lt, option_map, codes, Option, None, Some, All}
+use Rattle.std.specs.Prelude.{◌==◌, option_map, codes, Option, None, Some, All}
 use Rattle.std.specs.Fmt.{decimal}
 use Rattle.std.specs.Char.{digit_value}
 use Rattle.std.specs.Str.Parse.{AllDigits}
@@ -9,7 +9,6 @@ use Rattle.std.specs.List.{position_or_len}
 use Rattle.std.proofs.lemmas.Bool.Decides.{nat_tests}
 use Rattle.std.proofs.lemmas.List.Elements.{All-append, All-nil, All-cons}
 use Rattle.std.proofs.lemmas.List.{take_all}
-use Rattle.clus_names.specs.Limits.{LacksZero}
 use Rattle.ndr_values.specs.Text.{text_of}
 use Rattle.clusapi_stubs.specs.Outputs.{IsText}
 use Rattle.registry_defs.specs.Keys.{ValueData}
@@ -59,17 +58,6 @@ text_is_done front (byte ∷ []) total short is = sym (append_none front) ∙ is
 text_is_done front (byte ∷ next ∷ bytes) total short is = absurd (omega (arith, short))
 
 -- ---- what it is
-
-lacks_more : (unit : ℕ) (units : List ℕ) (b : Bool) → (unit == 0) ≡ b → LacksZero (text_of units) → LacksZero (text_of (unit ∷ units))
-lacks_more unit units true e rest = subst LacksZero (sym (text_end unit units e)) refl
-lacks_more unit units false e rest =
-    let h : 0 < unit = not_none unit e in
-    let positive : nat_lt 0 unit ≡ true = grind (arith, nat_tests) in
-    subst LacksZero (sym (text_first unit units e)) (rw (positive, rest) refl)
-
-pub text_lacks_zero : (units : List ℕ) → LacksZero (text_of units)
-text_lacks_zero [] = refl
-text_lacks_zero (unit ∷ units) = lacks_more unit units (unit == 0) refl (text_lacks_zero units)
 
 abbrev NotZeros : List ℕ → Type 0
 NotZeros units = All (λ unit. unit ≢ 0) units

@@ -15,8 +15,6 @@ mod reading;
 mod refusals;
 mod results;
 mod statuses;
-#[cfg(test)]
-mod tests;
 mod updating;
 
 pub use clusapi_stubs::{In, InFault, Out, read_in, write_out};

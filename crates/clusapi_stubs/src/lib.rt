@@ -19,6 +19,3 @@ pub use input::In;
 pub use output::Out;
 pub use reading::read_in;
 pub use writing::write_out;
-
-#[cfg(test)]
-mod tests;
