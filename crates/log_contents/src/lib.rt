@@ -8,6 +8,3 @@ mod fault;
 pub use contents::{LogContents, Records};
 pub use decoding::decode_contents;
 pub use fault::ContentsFault;
-
-#[cfg(test)]
-mod tests;

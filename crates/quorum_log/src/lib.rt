@@ -12,8 +12,6 @@ pub mod layout;
 pub mod log;
 mod opening;
 mod reading;
-#[cfg(test)]
-mod tests;
 mod writing;
 
 pub use fault::{AppendFault, OpenFault};
