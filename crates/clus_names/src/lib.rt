@@ -17,6 +17,3 @@ pub use name::Name;
 pub use path::Path;
 pub use splitting::split_first_part;
 pub use units::{Units, lacks_zero};
-
-#[cfg(test)]
-mod tests;

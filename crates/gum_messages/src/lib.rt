@@ -10,8 +10,6 @@ mod laws;
 mod member;
 mod members;
 mod message;
-#[cfg(test)]
-mod tests;
 mod view;
 
 pub use body::Body;

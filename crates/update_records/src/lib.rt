@@ -25,6 +25,3 @@ pub use update::Update;
 pub use update_id::UpdateId;
 pub use update_record::Record;
 pub use writing::{put_counted, put_data};
-
-#[cfg(test)]
-mod tests;

@@ -1,0 +1,63 @@
+//! Plays rows of text: names, updates, records, messages and views are read and built, and what came is printed.
+//!
+//! | Line | What it does |
+//! |---|---|
+//! | `# TEXT`, or nothing | is printed as it is |
+//! | `let NAME BYTES` | names these bytes |
+//! | `path TEXT`, `join TEXT TEXT` | prints how many parts the path has, and its parts |
+//! | `name TEXT`, `units TEXT` | prints the name, or the units, again |
+//! | `same path TEXT TEXT`, `same name ..` | prints `same` or `different` |
+//! | `update BYTES`, `record`, `first`, `message` | reads, copies and encodes again; `first` is a record of version 1 |
+//! | `created PLACE STAMP NODE INC REQ TEXT` | prints the encoding of a record that creates this subkey of the root |
+//! | `piece TOTAL OFFSET BYTES` | the same of a message, a piece of a state from node 1 to node 2 in view 1 |
+//! | `view NUMBER NODE.INC ..` | prints the view with its locker, or `refused` |
+//! | `incarnation NODE NUMBER NODE.INC ..` | prints the node's incarnation in this view |
+//!
+//! BYTES are words: hex, `HEX*COUNT` for the same COUNT times, or `$NAME`. TEXT is one word: pieces joined by `+`, each
+//! of them characters or `CHARACTERS*COUNT`, with `{HEX}` for any other unit, and `""` for the empty text.
+//!
+//! Bytes are printed as hex, a run of 32 equal bytes or more as `HEX*COUNT`; what is at fault as `bad` with its place,
+//! or with its cause. Any other line ends the program, with its number.
+#![tactic(auto)]
+
+mod building;
+mod fault;
+mod naming;
+mod recording;
+mod rows;
+mod shown;
+mod units_of;
+mod viewing;
+mod words;
+
+use row_words::{Names, RowFault};
+use rows::play;
+use std::io;
+use std::process::ExitCode;
+
+fn main(rt: HostRuntime) -> ExitCode {
+    match play_all(&rt) {
+        Ok(true) => ExitCode::from(0),
+        Ok(false) => ExitCode::from(1),
+        Err(_) => ExitCode::from(2),
+    }
+}
+
+/// Whether each line of the input was a row.
+fn play_all(rt: &HostRuntime) -> io::Result<bool> {
+    let alloc = rt.alloc();
+    let mut names = Names::new(alloc);
+    let mut number = 0u64;
+    for line in rt.lines(alloc) {
+        number = number.saturating_add(1);
+        match play(alloc, &mut names, line?.as_str()) {
+            Ok(text) => print!(rt; "{text}")?,
+            Err(RowFault::Memory) => return Err(io::Error::from(io::ErrorKind::OutOfMemory)),
+            Err(RowFault::Bad) => {
+                println!(rt; "bad line {number}")?;
+                return Ok(false);
+            }
+        }
+    }
+    Ok(true)
+}
