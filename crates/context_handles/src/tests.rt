@@ -29,10 +29,13 @@ fn birth_of(held: Option<&Held>) -> Option<u64> {
 fn a_handle_is_found_in_its_group_alone_until_it_is_closed(rt: HostRuntime) -> Result<(), Fail> {
     let alloc = rt.alloc();
     let mut handles = Handles::new(alloc, 3);
-    assert_eq!(rt; handles.join_group(0)?, Some(1));
-    assert_eq!(rt; handles.join_group(0)?, Some(2));
-    assert_eq!(rt; handles.open(1, root(alloc, 7))?, sent(1));
-    assert_eq!(rt; handles.open(2, root(alloc, 9))?, sent(2));
+    let groups = [handles.join_group(0)?, handles.join_group(0)?];
+    let opened = [
+        handles.open(1, root(alloc, 7))?,
+        handles.open(2, root(alloc, 9))?,
+    ];
+    assert_eq!(rt; groups, [Some(1), Some(2)]);
+    assert_eq!(rt; opened, [sent(1), sent(2)]);
     assert_eq!(rt; handles.serials(), 2);
     for (group, handle, birth) in [
         (1, sent(1), Some(7)),
@@ -59,9 +62,12 @@ fn a_handle_is_found_in_its_group_alone_until_it_is_closed(rt: HostRuntime) -> R
     ] {
         assert_eq!(rt; birth_of(handles.find(group, &handle)), birth);
     }
-    assert!(rt; !handles.close(2, &sent(1)));
-    assert!(rt; handles.close(1, &sent(1)));
-    assert!(rt; !handles.close(1, &sent(1)));
+    let closed = [
+        handles.close(2, &sent(1)),
+        handles.close(1, &sent(1)),
+        handles.close(1, &sent(1)),
+    ];
+    assert_eq!(rt; closed, [false, true, false]);
     assert!(rt; handles.find(1, &sent(1)).is_none());
     Ok(())
 }
@@ -70,16 +76,23 @@ fn a_handle_is_found_in_its_group_alone_until_it_is_closed(rt: HostRuntime) -> R
 fn a_group_ends_with_its_last_connection(rt: HostRuntime) -> Result<(), Fail> {
     let alloc = rt.alloc();
     let mut handles = Handles::new(alloc, 3);
-    assert_eq!(rt; handles.join_group(1)?, None);
-    assert_eq!(rt; handles.join_group(0)?, Some(1));
-    assert_eq!(rt; handles.join_group(1)?, Some(1));
-    assert_eq!(rt; handles.open(1, root(alloc, 7))?, sent(1));
+    let joined = [
+        handles.join_group(1)?,
+        handles.join_group(0)?,
+        handles.join_group(1)?,
+    ];
+    let opened = handles.open(1, root(alloc, 7))?;
     handles.leave(1);
-    assert_eq!(rt; birth_of(handles.find(1, &sent(1))), Some(7));
+    let one_left = birth_of(handles.find(1, &sent(1)));
     handles.leave(1);
-    assert!(rt; handles.find(1, &sent(1)).is_none());
-    assert_eq!(rt; handles.join_group(1)?, None);
-    assert_eq!(rt; handles.join_group(0)?, Some(2));
-    assert_eq!(rt; handles.open(2, root(alloc, 7))?, sent(2));
+    let none_left = birth_of(handles.find(1, &sent(1)));
+    let later = [handles.join_group(1)?, handles.join_group(0)?];
+    assert_eq!(rt; joined, [None, Some(1), Some(1)]);
+    assert_eq!(rt; [one_left, none_left], [Some(7), None]);
+    assert_eq!(rt; later, [None, Some(2)]);
+    assert_eq!(rt;
+        [opened, handles.open(2, root(alloc, 7))?],
+        [sent(1), sent(2)]
+    );
     Ok(())
 }

@@ -46,62 +46,74 @@ fn a_crash_leaves_any_bytes_in_what_is_pending(rt: HostRuntime) -> Result<(), Fa
 #[test]
 fn calls_fail_as_planned(rt: HostRuntime) -> Result<(), Fail> {
     let mut disk = MemDisk::new(rt.alloc(), 4)?;
-    assert_eq!(rt; disk.size(), 4);
     let mut image = [9; 4];
     disk.fail_in(2);
-    assert_eq!(rt; disk.read(0, &mut image), Ok(()));
+    let told = [
+        disk.read(0, &mut image),
+        disk.claim(3),
+        disk.claim(3),
+        disk.sync(2),
+        disk.write(3, 0, &[1, 2, 3, 4]),
+        disk.write(3, 0, &[5]),
+    ];
+    let wanted = [
+        Ok(()),
+        Err(DiskFault::Failed),
+        Ok(()),
+        Err(DiskFault::Fenced { held: 3 }),
+        Ok(()),
+        // past the room
+        Err(DiskFault::Failed),
+    ];
+    assert_eq!(rt; told, wanted);
+    assert_eq!(rt; disk.size(), 4);
+    assert_eq!(rt; [disk.held(), disk.calls()], [3, 4]);
     assert_eq!(rt; image, [0; 4]);
-    assert_eq!(rt; disk.claim(3), Err(DiskFault::Failed));
-    assert_eq!(rt; disk.held(), 0);
-    assert_eq!(rt; disk.claim(3), Ok(()));
-    assert_eq!(rt; disk.held(), 3);
-    assert_eq!(rt; disk.sync(2), Err(DiskFault::Fenced { held: 3 }));
-    assert_eq!(rt; disk.write(3, 0, &[1, 2, 3, 4]), Ok(()));
-    assert_eq!(rt;
-        disk.write(3, 0, &[5]),
-        Err(DiskFault::Failed),
-        "past the room"
-    );
-    assert_eq!(rt; disk.calls(), 4);
     disk.mark();
-    assert_eq!(rt; disk.calls(), 0);
-    assert_eq!(rt;
-        disk.write(3, 0, &[5]),
-        Err(DiskFault::Failed),
-        "pending bytes take room"
-    );
-    assert_eq!(rt; disk.sync(3), Ok(()));
+    let full = disk.write(3, 0, &[5]);
+    let synced = disk.sync(3);
     disk.mark();
-    assert_eq!(rt; disk.write(3, 0, &[5]), Ok(()));
+    let told = [full, synced, disk.write(3, 0, &[5])];
+    // pending bytes take room until they are synced
+    assert_eq!(rt; told, [Err(DiskFault::Failed), Ok(()), Ok(())]);
     assert_eq!(rt; disk.faults(), 3);
     Ok(())
 }
 
 const PATH: &str = "disk_core_test.img";
 
+/// A new file is made by the first write; four of its bytes are read before it, and four behind it by another disk.
 #[test]
 fn a_file_keeps_what_is_written(rt: HostRuntime) -> Result<(), Fail> {
     let _ = fs::remove_file(&rt, PATH);
     let mut disk = FileDisk::at(&rt, String::from_str(rt.alloc(), PATH)?);
-    let mut bytes = [9; 4];
-    assert_eq!(rt; disk.claim(4), Ok(()));
-    assert_eq!(rt; disk.read(3, &mut bytes), Ok(()));
-    assert_eq!(rt; bytes, [0; 4]);
-    assert_eq!(rt; disk.sync(4), Ok(()));
-    assert!(rt; !fs::exists(&rt, PATH)?, "made before the first write");
-    assert_eq!(rt;
+    let (mut before, mut behind) = ([9; 4], [9; 4]);
+    let first = [disk.claim(4), disk.read(3, &mut before), disk.sync(4)];
+    let made = fs::exists(&rt, PATH)?;
+    let second = [
         disk.write(3, 5, b"abc"),
-        Err(DiskFault::Fenced { held: 4 })
-    );
-    assert_eq!(rt; disk.write(4, 5, b"abc"), Ok(()));
-    assert_eq!(rt; disk.sync(4), Ok(()));
-    assert_eq!(rt; fs::metadata(&rt, PATH)?.len(), 8);
+        disk.write(4, 5, b"abc"),
+        disk.sync(4),
+    ];
+    let length = fs::metadata(&rt, PATH)?.len();
     let mut other = FileDisk::at(&rt, String::from_str(rt.alloc(), PATH)?);
-    assert_eq!(rt; other.size(), 1_099_511_627_776);
-    assert_eq!(rt; other.read(6, &mut bytes), Ok(()));
-    assert_eq!(rt; bytes, *b"bc\0\0");
+    let third = other.read(6, &mut behind);
     fs::remove_file(&rt, PATH)?;
+    assert_eq!(rt; first, [Ok(()), Ok(()), Ok(())]);
+    assert!(rt; !made);
+    assert_eq!(rt;
+        second,
+        [Err(DiskFault::Fenced { held: 4 }), Ok(()), Ok(())]
+    );
+    assert_eq!(rt; third, Ok(()));
+    assert_eq!(rt; [before, behind], [[0; 4], *b"bc\0\0"]);
+    assert_eq!(rt; [length, other.size()], [8, 1_099_511_627_776]);
+    Ok(())
+}
+
+#[test]
+fn a_folder_is_no_disk(rt: HostRuntime) -> Result<(), Fail> {
     let mut folder = FileDisk::at(&rt, String::from_str(rt.alloc(), ".")?);
-    assert_eq!(rt; folder.read(0, &mut bytes), Err(DiskFault::Failed));
+    assert_eq!(rt; folder.read(0, &mut [9; 4]), Err(DiskFault::Failed));
     Ok(())
 }
