@@ -13,7 +13,8 @@ use Rattle.view_reconcile.specs.Joining.{ReconcileState}
 use Rattle.view_reconcile.specs.Joining as joining
 use Rattle.view_reconcile.specs.Chains.{view_in}
 use Rattle.cluster_rules.specs.Machines.{Machine}
-use Rattle.cluster_rules.specs.Packets.{Packet, Granted}
+use Rattle.gum_messages.specs.declared.body.Body.TheVariants.{Granted}
+use Rattle.gum_messages.specs.Messages.{Sent}
 use Rattle.cluster_rules.specs.Nodes.{NodeState, Replica, done_of, packet, tells}
 use Rattle.cluster_rules.specs.Updates.{has_logged}
 use Rattle.cluster_rules.specs.Worlds.{World, absorb, acked, with_log}
@@ -260,7 +261,7 @@ module _ {M : Machine} where
             let le : r.place ≤ done_of y = omega (arith, f.place, d') in
             let here : at_place w'.log.order r.place ≡ Some r = ap (at_place w'.log.order) gs.place ∙ place_new w.log.order r in
             let rc : Reached w' n (inc_of x.join.view.members n) r.place = record { started = omega (arith, h.inc, (h.view nz).1); done = λ z q same. self_node w n y [] (λ (t : NodeState M). r.place ≤ done_of t) le z q } in
-            one_told (λ (q : Packet). Pooled w' q) (packet y r.id.node (Granted r)) (record {
+            one_told (λ (q : Sent). Pooled w' q) (packet y r.id.node (Granted r)) (record {
               view = x.join.view;
               declared = (h.view nz).0;
               number = refl;

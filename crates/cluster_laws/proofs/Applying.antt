@@ -11,8 +11,11 @@ use Rattle.update_records.specs.declared.update.Update.{Update}
 use Rattle.view_reconcile.specs.Joining.{ReconcileState}
 use Rattle.view_reconcile.specs.Joining as joining
 use Rattle.cluster_rules.specs.Machines.{Machine, IsMachine, outcome_at, registry_at, replay}
-use Rattle.cluster_rules.specs.Packets.{Packet, Applied}
-use Rattle.cluster_rules.specs.Nodes.{Effect, NodeState, Out, Replica, Send, done_of, has_state, is_head, packet}
+use Rattle.gum_messages.specs.declared.body.Body.TheVariants.{Applied}
+use Rattle.gum_messages.specs.Messages.{Sent}
+use Rattle.cluster_rules.specs.declared.effect.Effect.{Effect}
+use Rattle.cluster_rules.specs.declared.effect.Effect.TheVariants.{Send}
+use Rattle.cluster_rules.specs.Nodes.{NodeState, Out, Replica, done_of, has_state, is_head, packet}
 use Rattle.cluster_rules.specs.Updates.{applied, applies, on_apply, outcome_after, replica_after}
 use Rattle.cluster_rules.specs.Worlds.{World, absorb}
 use Rattle.gum_core.proofs.Cases.{applying_cases}
@@ -221,7 +224,7 @@ module _ {M : Machine} where
       move_keeps w n x y es j at (record {
         grown = gr;
         node = node_in w n x y es j at gr (apply_node w n x r st.0 j at st.1 rd nl lg pl);
-        messages = one_told (λ (q : Packet). Pooled (moved w n y es) q) (packet y from (Applied r.place)) (tells_ y refl refl (omega (arith, pl, dn)));
+        messages = one_told (λ (q : Sent). Pooled (moved w n y es) q) (packet y from (Applied r.place)) (tells_ y refl refl (omega (arith, pl, dn)));
         acks = none_acked (λ (a b : ℕ). AckOk (moved w n y es) a b);
         points = quiet_points w n y es refl;
         owner = λ o. absurd (locker_not (joining.locks x.join) o.locker nl);

@@ -11,9 +11,12 @@ use Rattle.gum_core.specs.Updating.{CoreState, greatest_of}
 use Rattle.gum_core.specs.Updating as updating
 use Rattle.view_reconcile.specs.Joining.{ReconcileState}
 use Rattle.view_reconcile.specs.Joining as joining
+use Rattle.cluster_rules.specs.declared.effect.HaltCause.TheVariants as halt
 use Rattle.cluster_rules.specs.Machines.{Machine}
-use Rattle.cluster_rules.specs.Packets.{Ask, Granted}
-use Rattle.cluster_rules.specs.Nodes.{Effect, NodeState, Out, Replica, Send, done_of, halts, nothing, number_of, packet, tells}
+use Rattle.gum_messages.specs.declared.body.Body.TheVariants.{Ask, Granted}
+use Rattle.cluster_rules.specs.declared.effect.Effect.{Effect}
+use Rattle.cluster_rules.specs.declared.effect.Effect.TheVariants.{Send}
+use Rattle.cluster_rules.specs.Nodes.{NodeState, Out, Replica, done_of, halts, nothing, number_of, packet, tells}
 use Rattle.cluster_rules.specs.Updates.{Answer, InDoubt, Logged, Unwritten, Written, answers, entry_for, has_logged, on_ask, unlogged}
 use Rattle.cluster_rules.specs.Worlds.{Log, World, absorb, append, leave, logs, put, stopped, with_log, written}
 use Rattle.cluster_laws.proofs.Inv.{Invariant, MsgOk, NodeOk, Pooled, Reached}
@@ -83,8 +86,8 @@ module _ {M : Machine} where
 
   answer_keeps : (w : World M) (n : ℕ) (x : NodeState M) (s : Replica M) (e : Entry) (answer : Answer) → Invariant w → Fresh w n x s e → Keeps w n x (elim answer [
     | Written ↦ record { out = tells (has_logged x e) e.id.node (Granted e); appended = Some e; doubtful = None }
-    | InDoubt ↦ record { out = halts; appended = None; doubtful = Some e }
-    | Unwritten ↦ unlogged halts
+    | InDoubt ↦ record { out = halts halt.Disk; appended = None; doubtful = Some e }
+    | Unwritten ↦ unlogged (halts halt.Disk)
   ])
   answer_keeps w n x s e Written j f = subst (λ (l : Log). Invariant (absorb n (tells (has_logged x e) e.id.node (Granted e)) (with_log l w))) (appended_log w.log e x.join.view.number (j.owner n x f.owner).sure) (append_keeps w n x s e j f)
   answer_keeps w n x s e InDoubt j f = halt_keeps (with_log (record w.log { doubtful = Some e; doubtful_view = x.join.view.number }) w) n (fail_keeps w n x s e j f)
@@ -92,8 +95,8 @@ module _ {M : Machine} where
 
   answer_dies : (w : World M) (n : ℕ) (x : NodeState M) (s : Replica M) (e : Entry) (answer : Answer) → Invariant w → Fresh w n x s e → Dies w n x (elim answer [
     | Written ↦ record { out = tells (has_logged x e) e.id.node (Granted e); appended = Some e; doubtful = None }
-    | InDoubt ↦ record { out = halts; appended = None; doubtful = Some e }
-    | Unwritten ↦ unlogged halts
+    | InDoubt ↦ record { out = halts halt.Disk; appended = None; doubtful = Some e }
+    | Unwritten ↦ unlogged (halts halt.Disk)
   ])
   answer_dies w n x s e Written j f = fail_keeps w n x s e j f
   answer_dies w n x s e InDoubt j f = fail_keeps w n x s e j f

@@ -11,8 +11,11 @@ use Rattle.gum_core.specs.Updating as updating
 use Rattle.view_reconcile.specs.Joining.{ReconcileState}
 use Rattle.view_reconcile.specs.Joining as joining
 use Rattle.cluster_rules.specs.Machines.{Machine}
-use Rattle.cluster_rules.specs.Packets.{Packet, Ask, Release}
-use Rattle.cluster_rules.specs.Nodes.{Acked, Effect, NodeState, Send, asks, done_of, locker_at, packet}
+use Rattle.gum_messages.specs.declared.body.Body.TheVariants.{Ask, Release}
+use Rattle.gum_messages.specs.Messages.{Sent}
+use Rattle.cluster_rules.specs.declared.effect.Effect.{Effect}
+use Rattle.cluster_rules.specs.declared.effect.Effect.TheVariants.{Acked, Send}
+use Rattle.cluster_rules.specs.Nodes.{NodeState, asks, done_of, locker_at, packet}
 use Rattle.cluster_rules.specs.Updates.{proceeds}
 use Rattle.cluster_rules.specs.Worlds.{World, absorb, acked, sent}
 use Rattle.cluster_laws.proofs.Inv.{AckOk, AllReached, Has, Invariant, NodeOk, Past, Pooled, Requested, Stands, at_head, greatest_asked, waits}
@@ -122,7 +125,7 @@ module _ {M : Machine} where
   -- the head leaves: told with the acknowledgement and these messages
   pub pop_ok : (w : World M) (n : ℕ) (x : NodeState M) (r : Entry) (es : List Effect) → Invariant w → w.nodes n ≡ Some x → Done w n x r
       → acked es ≡ (x.join.view.number, r.place) ∷ []
-      → ((k : ℕ) (p : Packet) → slice_get (sent es) k ≡ Some p → Pooled (moved w n (popped x) es) p)
+      → ((k : ℕ) (p : Sent) → slice_get (sent es) k ≡ Some p → Pooled (moved w n (popped x) es) p)
       → HeadOk w n x (popped x) es
   pop_ok w n x r es j at d ea ms =
       let gr : Grown x (popped x) = popped_grown x d.full in
@@ -167,7 +170,7 @@ module _ {M : Machine} where
       let next : Option ℕ = if nat_lt 1 (length x.core.queue) then Some (x.core.passed + 2) else None in
       let es : List Effect = Acked x.join.view.number r.place ∷ Send (packet x (locker_at x) (Release (x.core.passed + 1))) ∷ asks (popped x) next in
       let here : inc_of x.join.view.members n ≡ x.join.inc = (h.view (h.ready_view d.ready)).1 in
-      let P : Packet → Type 0 = λ p. Pooled (moved w n (popped x) es) p in
+      let P : Sent → Type 0 = λ p. Pooled (moved w n (popped x) es) p in
       let ex : Ext w (moved w n (popped x) es) = ext_absorb w n x (popped x) es at (popped_grown x d.full) in
       let rel : P (packet x (locker_at x) (Release (x.core.passed + 1))) = told w n x (popped x) es (locker_at x) (Release (x.core.passed + 1)) h (h.ready_view d.ready) refl refl (
         record { started = omega (arith, h.inc, here); passed = λ z e same. self_node w n (popped x) es (λ (t : NodeState M). x.core.passed + 1 ≤ t.core.passed) (omega arith) z e },
@@ -176,7 +179,7 @@ module _ {M : Machine} where
         record { node = d.id.node; inc = d.id.inc ∙ sym here; req = d.id.req },
         all_reached w (moved w n (popped x) es) x.join.view.members r.place ex d.members,
       ) in
-      let ms : (k : ℕ) (p : Packet) → slice_get (sent es) k ≡ Some p → P p =
+      let ms : (k : ℕ) (p : Sent) → slice_get (sent es) k ≡ Some p → P p =
       cons_told P (packet x (locker_at x) (Release (x.core.passed + 1))) (sent (asks (popped x) next)) rel
       (asks_told P (popped x) next (λ req u us some full. next_told w n x es req u us j at d.full d.ready (sym ((if_some (nat_lt 1 (length x.core.queue)) (x.core.passed + 2) req some).1)) full)) in
       head_keeps w n x (x.core.passed + 1) (drop 1 x.core.queue) None None None None es j at

@@ -20,8 +20,11 @@ use Rattle.view_reconcile.specs.Joining.{ReconcileState}
 use Rattle.view_reconcile.specs.Joining as joining
 use Rattle.view_reconcile.specs.Chains.{view_in}
 use Rattle.cluster_rules.specs.Machines.{Machine}
-use Rattle.cluster_rules.specs.Packets.{Packet, Ask, Granted, Apply, Applied, Release}
-use Rattle.cluster_rules.specs.Nodes.{Effect, NodeState, Out, Send, asks, locker_at, nothing, packet}
+use Rattle.gum_messages.specs.declared.body.Body.TheVariants.{Ask, Granted, Apply, Applied, Release}
+use Rattle.gum_messages.specs.Messages.{Sent}
+use Rattle.cluster_rules.specs.declared.effect.Effect.{Effect}
+use Rattle.cluster_rules.specs.declared.effect.Effect.TheVariants.{Send}
+use Rattle.cluster_rules.specs.Nodes.{NodeState, Out, asks, locker_at, nothing, packet}
 use Rattle.cluster_rules.specs.Updates.{asked_for, may_submit, on_applied, on_granted, proceeds, submit, submits}
 use Rattle.cluster_rules.specs.Worlds.{World, absorb, acked, noted, put}
 use Rattle.cluster_laws.proofs.Inv.{AckOk, AllReached, Asked, Has, Invariant, MemberOk, MsgOk, NodeOk, Owner, OwnerOk, Pooled, Reached, Requested, Stands, WasReady, at_head, greatest_asked, waits}
@@ -140,7 +143,7 @@ module _ {M : Machine} where
         outcome = h.outcome;
         spreading = λ t e. let q : sp ≡ t = cc in subst (λ (t : Spreading). (a : Entry) × (Some r ≡ Some a) × (a.place ≡ t.place) × Has a n x.join.inc (at_head x) × SpreadOk w n x a t.at) q (r, refl, refl, id, s);
         finished = λ q lt le. absurd (omega arith);
-        messages = one_told (λ (q : Packet). Pooled (moved w n y es) q) (packet y to (Apply r)) (told w n x y es to (Apply r) h (h.ready_view (open_is_ready x.join s.0)) refl refl (record { at = s.1.at; view = s.1.view }));
+        messages = one_told (λ (q : Sent). Pooled (moved w n y es) q) (packet y to (Apply r)) (told w n x y es to (Apply r) h (h.ready_view (open_is_ready x.join s.0)) refl refl (record { at = s.1.at; view = s.1.view }));
         acks = none_acked (λ (a b : ℕ). AckOk (moved w n y es) a b);
       }))
 
@@ -297,7 +300,7 @@ module _ {M : Machine} where
           finished = λ q p b. let f = h.finished q p b in
               (f.0, f.1, f.2, f.3, f.4, slice_get_front w.acks (acked es) f.1 (f.2, f.0.place) f.5, f.6);
         };
-        messages = asks_told (λ (p : Packet). Pooled w' p) y (asked_for (updating.first_ask x.core)) (λ req v vs some full_.
+        messages = asks_told (λ (p : Sent). Pooled w' p) y (asked_for (updating.first_ask x.core)) (λ req v vs some full_.
             let b = asked_some (x.core.is_open && nat_eq (length x.core.queue) 0) (x.core.passed + 1) req some in
             let none : length x.core.queue ≡ 0 = eq_true (length x.core.queue) 0 (and_true x.core.is_open (nat_eq (length x.core.queue) 0) b.0).1 in
             let nz : x.join.view.number ≢ 0 = h.ready_view rd in

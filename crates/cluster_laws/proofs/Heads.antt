@@ -10,8 +10,11 @@ use Rattle.gum_core.specs.declared.spreading.Spreading.{Spreading}
 use Rattle.view_reconcile.specs.Joining.{ReconcileState}
 use Rattle.view_reconcile.specs.Joining as joining
 use Rattle.cluster_rules.specs.Machines.{Machine, outcome_at}
-use Rattle.cluster_rules.specs.Packets.{Packet, Ask}
-use Rattle.cluster_rules.specs.Nodes.{Effect, NodeState, Send, asks, becomes, done_of, has_state, locker_at, packet}
+use Rattle.gum_messages.specs.declared.body.Body.TheVariants.{Ask}
+use Rattle.gum_messages.specs.Messages.{Sent}
+use Rattle.cluster_rules.specs.declared.effect.Effect.{Effect}
+use Rattle.cluster_rules.specs.declared.effect.Effect.TheVariants.{Send}
+use Rattle.cluster_rules.specs.Nodes.{NodeState, asks, becomes, done_of, has_state, locker_at, packet}
 use Rattle.cluster_rules.specs.Worlds.{World, acked, sent}
 use Rattle.cluster_laws.proofs.Inv.{AckOk, Asked, Has, Invariant, LoggedIn, MemberOk, NodeOk, Pooled, Reached, Requested, Stands, at_head, greatest_asked, waits}
 use Rattle.cluster_laws.proofs.Stable.{AskedOnly, Ext, Grown, reached}
@@ -26,15 +29,15 @@ append_some [] u e = cc
 append_some (x ∷ xs) u e = cc
 
 -- what was told, behind one message
-pub cons_told : (P : Packet → Type 0) (p : Packet) (ps : List Packet) → P p → ((k : ℕ) (m : Packet) → slice_get ps k ≡ Some m → P m) → (k : ℕ) (m : Packet) → slice_get (p ∷ ps) k ≡ Some m → P m
+pub cons_told : (P : Sent → Type 0) (p : Sent) (ps : List Sent) → P p → ((k : ℕ) (m : Sent) → slice_get ps k ≡ Some m → P m) → (k : ℕ) (m : Sent) → slice_get (p ∷ ps) k ≡ Some m → P m
 cons_told P p ps h t zero m e = let g : p ≡ m = cc in subst P g h
 cons_told P p ps h t (suc k) m e = t k m e
 
 module _ {M : Machine} where
   -- what a node asks for
-  pub asks_told : (P : Packet → Type 0) (y : NodeState M) (next : Option ℕ) → ((req : ℕ) (u : Update) (us : List Update) → next ≡ Some req → y.core.queue ≡ u ∷ us → P (packet y (locker_at y) (Ask req u))) → (k : ℕ) (m : Packet) → slice_get (sent (asks y next)) k ≡ Some m → P m
+  pub asks_told : (P : Sent → Type 0) (y : NodeState M) (next : Option ℕ) → ((req : ℕ) (u : Update) (us : List Update) → next ≡ Some req → y.core.queue ≡ u ∷ us → P (packet y (locker_at y) (Ask req u))) → (k : ℕ) (m : Sent) → slice_get (sent (asks y next)) k ≡ Some m → P m
   asks_told P y next h =
-      let Q : List Effect → Type 0 = λ es. (k : ℕ) (m : Packet) → slice_get (sent es) k ≡ Some m → P m in
+      let Q : List Effect → Type 0 = λ es. (k : ℕ) (m : Sent) → slice_get (sent es) k ≡ Some m → P m in
       option_cases Q next [] (λ req. elim y.core.queue [ [] ↦ [] | u ∷ us ↦ Send (packet y (locker_at y) (Ask req u)) ∷ [] ])
       (λ none. none_told P)
       (λ req some. list_cases Q y.core.queue [] (λ u us. Send (packet y (locker_at y) (Ask req u)) ∷ [])
@@ -80,7 +83,7 @@ module _ {M : Machine} where
     pub queued : (k : ℕ) (u : Update) → slice_get y.core.queue k ≡ Some u → Requested w n x.join.inc (y.core.passed + (k + 1)) u
     pub all_requests : y.core.passed + length y.core.queue ≡ x.core.passed + length x.core.queue
     pub finished : (q : ℕ) → x.core.passed < q → q ≤ y.core.passed → (r : Entry) × (a v : ℕ) × Stands w.log r × Has r n x.join.inc q × (slice_get (w.acks ++ acked es) a ≡ Some (v, r.place)) × (v ≤ x.join.view.number)
-    pub messages : (k : ℕ) (p : Packet) → slice_get (sent es) k ≡ Some p → Pooled (moved w n y es) p
+    pub messages : (k : ℕ) (p : Sent) → slice_get (sent es) k ≡ Some p → Pooled (moved w n y es) p
     pub points : PointsOk w n y es
     pub acks : (k v p : ℕ) → slice_get (acked es) k ≡ Some (v, p) → AckOk (moved w n y es) v p
 

@@ -17,8 +17,12 @@ use Rattle.view_reconcile.specs.Joining.{ReconcileState}
 use Rattle.view_reconcile.specs.Joining as joining
 use Rattle.view_reconcile.specs.Chains.{view_in}
 use Rattle.cluster_rules.specs.Machines.{Machine, IsMachine, registry_at}
-use Rattle.cluster_rules.specs.Packets.{Packet, Offer}
-use Rattle.cluster_rules.specs.Nodes.{Effect, NodeState, Offering, Opened, Out, Replica, done_of, halts, has_state, members_of, nothing, place_of, to_each}
+use Rattle.gum_messages.specs.declared.body.Body.TheVariants.{Offer}
+use Rattle.gum_messages.specs.Messages.{Sent}
+use Rattle.cluster_rules.specs.declared.effect.Effect.{Effect}
+use Rattle.cluster_rules.specs.declared.effect.Effect.TheVariants.{Opened}
+use Rattle.cluster_rules.specs.declared.offering.Offering.{Offering}
+use Rattle.cluster_rules.specs.Nodes.{NodeState, Out, Replica, done_of, halts, has_state, members_of, nothing, place_of, to_each}
 use Rattle.cluster_rules.specs.Updates.{applied, opens}
 use Rattle.cluster_rules.specs.Joins.{done_within, entered, goes_on, hears_itself, joined, last_of, recovers, shows, takes_view, with_replica}
 use Rattle.cluster_rules.specs.Worlds.{Log, Opening, Recovered, Refused, World, absorb, claimed, die_in_install, found_log, install, opening, opens_log, put, raise, stopped, with_log}
@@ -105,17 +109,17 @@ module _ {M : Machine} where
       becomes_ready_cases (λ (r : ReconcileState × Step). Invariant (absorb n (goes_on (joined z o.count o.last r.0) o r.1) w)) (record x.join { stage = t })
       (λ a.
       let w1 : World M = moved w n y [] in
-      let j1 : Invariant w1 = ready_keeps w n x s o.last out (λ (u : NodeState M). []) j at rs y eq (λ ok. none_told (λ (p : Packet). Pooled (moved w n q []) p)) refl (λ ow. ready_owner w n x o s out [] j at k sd) in
+      let j1 : Invariant w1 = ready_keeps w n x s o.last out (λ (u : NodeState M). []) j at rs y eq (λ ok. none_told (λ (p : Sent). Pooled (moved w n q []) p)) refl (λ ow. ready_owner w n x o s out [] j at k sd) in
       let at1 : w1.nodes n ≡ Some y = moved_there w n y [] in
       let here = (h.view k.view).1 in
       let me : WasReady w1 n (inc_of x.join.view.members n) x.join.view.number = subst (λ (i : ℕ). WasReady w1 n i x.join.view.number) (sym here) (was_ready_here w1 n y j1 at1 refl) in
       let were : AllWere w1 y = λ m pos. subst (λ (i : ℕ). WasReady w1 i (inc_of x.join.view.members i) x.join.view.number) (sym (alone_member x.join m a pos ∙ h.node)) me in
       let open_ : Out M = opens (joined z o.count o.last (record x.join { stage = stage.Open })) in
-      subst (λ (v : World M). Invariant v) (two_moves w n y [] open_) (opens_keeps w1 n y (Opened x.join.view.number ∷ []) j1 at1 refl refl were refl (none_told (λ (p : Packet). Pooled w1 p))))
+      subst (λ (v : World M). Invariant v) (two_moves w n y [] open_) (opens_keeps w1 n y (Opened x.join.view.number ∷ []) j1 at1 refl refl were refl (none_told (λ (p : Sent). Pooled w1 p))))
       (λ a.
       let es : NodeState M → List Effect = λ u. to_each u (Offer o.count o.cap o.last) (spread_of (members_of u)) in
       ready_keeps w n x s o.last out es j at rs y eq
-      (λ ok. each_to (λ (p : Packet). Pooled (moved w n q (es q)) p) q (Offer o.count o.cap o.last) (spread_of (members_of q)) (λ to. told w n x q (es q) to (Offer o.count o.cap o.last) h k.view refl refl
+      (λ ok. each_to (λ (p : Sent). Pooled (moved w n q (es q)) p) q (Offer o.count o.cap o.last) (spread_of (members_of q)) (λ to. told w n x q (es q) to (Offer o.count o.cap o.last) h k.view refl refl
       (k.counted ∙ ap (λ (c : ℕ). Some c) (sym k.count), k.cap, ap (at_place w.log.order) k.count ∙ sym k.last)))
       (no_acks q (Offer o.count o.cap o.last) (spread_of (members_of q)))
       (λ ow. ready_owner w n x o s out (es q) j at k sd))
@@ -272,11 +276,11 @@ module _ {M : Machine} where
   recover_keeps : IsMachine M → (w : World M) (n : ℕ) (x : NodeState M) (v : View) (opening : Opening) → Invariant w → w.nodes n ≡ Some x → takes_view x v ≡ true → x.join.view.number < v.number → view_in w.chain v.number ≡ Some v → inc_of v.members n ≡ x.join.inc → is_locker v.members x.join.node ≡ true → w.log.held ≤ v.number
       → Invariant (elim opening [
         | Recovered found ↦ absorb n (recovers (entered v x) w.log.cap (found_log found w.log).order) (with_log (claimed v.number (found_log found w.log)) w)
-        | Refused raised ↦ absorb n halts (with_log (raise raised v.number w.log) w)
+        | Refused raised cause ↦ absorb n (halts cause) (with_log (raise raised v.number w.log) w)
       ])
   recover_keeps law w n x v (Recovered found) j at g up decl mem lk le =
       subst (λ (y : NodeState M). Invariant (absorb n (recovers y w.log.cap (found_log found w.log).order) (with_log (claimed v.number (found_log found w.log)) w))) (sym (entered_is x v g)) (found_recovers law w n x v found j at up decl mem lk le)
-  recover_keeps law w n x v (Refused raised) j at g up decl mem lk le =
+  recover_keeps law w n x v (Refused raised cause) j at g up decl mem lk le =
       let me : locker_of v.members ≡ n = locker_is v.members x.join.node lk ∙ (j.nodes n x at).node in
       halt_keeps (with_log (raise raised v.number w.log) w) n (raise_keeps w n x v raised j at up decl mem me le)
 

@@ -14,8 +14,11 @@ use Rattle.view_reconcile.specs.Joining.{ReconcileState}
 use Rattle.view_reconcile.specs.Joining as joining
 use Rattle.view_reconcile.specs.Chains.{IsChain, view_in}
 use Rattle.cluster_rules.specs.Machines.{Machine, outcome_at, registry_at}
-use Rattle.cluster_rules.specs.Packets.{Body, Packet, Ask, Granted, Apply, Applied, Release, Offer, Need, Piece, Ready, OpenView}
-use Rattle.cluster_rules.specs.Nodes.{NodeState, Offering, Replica, done_of, has_state}
+use Rattle.gum_messages.specs.declared.body.Body.{Body}
+use Rattle.gum_messages.specs.declared.body.Body.TheVariants.{Ask, Granted, Apply, Applied, Release, Offer, Need, Piece, Ready, OpenView}
+use Rattle.gum_messages.specs.Messages.{Sent}
+use Rattle.cluster_rules.specs.declared.offering.Offering.{Offering}
+use Rattle.cluster_rules.specs.Nodes.{NodeState, Replica, done_of, has_state}
 use Rattle.cluster_rules.specs.Worlds.{Log, Point, World}
 
 module _ {M : Machine} where
@@ -118,7 +121,7 @@ module _ {M : Machine} where
   MsgOk w v from to Ready = WasReady w from (inc_of v.members from) v.number
   MsgOk w v from to OpenView = (n : ℕ) → 0 < inc_of v.members n → WasReady w n (inc_of v.members n) v.number
 
-  pub record Pooled (w : World M) (p : Packet) : Type 0 where
+  pub record Pooled (w : World M) (p : Sent) : Type 0 where
     pub view : View
     pub declared : view_in w.chain p.view ≡ Some view
     pub number : view.number ≡ p.view
@@ -250,7 +253,7 @@ module _ {M : Machine} where
     pub log : LogOk w
     pub nodes : (n : ℕ) (x : NodeState M) → w.nodes n ≡ Some x → NodeOk w n x
     pub owner : (n : ℕ) (x : NodeState M) → Owner w n x → OwnerOk w n x
-    pub pool : (k : ℕ) (p : Packet) → slice_get w.pool k ≡ Some p → Pooled w p
+    pub pool : (k : ℕ) (p : Sent) → slice_get w.pool k ≡ Some p → Pooled w p
     pub acks : (a v k : ℕ) → slice_get w.acks a ≡ Some (v, k) → AckOk w v k
     pub points : (a : ℕ) (p : Point) → slice_get w.points a ≡ Some p → Past w p.node p.inc p.place
     pub steady : (a b : ℕ) (p q : Point) → slice_get w.points a ≡ Some p → slice_get w.points b ≡ Some q → a ≤ b → p.node ≡ q.node → p.inc ≡ q.inc → p.place ≤ q.place

@@ -13,9 +13,13 @@ use Rattle.view_reconcile.specs.declared.stage.Stage.TheVariants as stage
 use Rattle.view_reconcile.specs.declared.step.Step.{Step}
 use Rattle.view_reconcile.specs.Joining.{ReconcileState}
 use Rattle.view_reconcile.specs.Joining as joining
+use Rattle.cluster_rules.specs.declared.effect.HaltCause.TheVariants as halt
 use Rattle.cluster_rules.specs.Machines.{Machine, registry_at}
-use Rattle.cluster_rules.specs.Packets.{Body, Packet, Ask, Granted, Apply, Applied, Release, Offer, Need, Piece, Ready, OpenView}
-use Rattle.cluster_rules.specs.Nodes.{NodeState, Offering, Out, done_of, halts, locker_at, nothing, number_of, place_of, tells}
+use Rattle.gum_messages.specs.declared.body.Body.{Body}
+use Rattle.gum_messages.specs.declared.body.Body.TheVariants.{Ask, Granted, Apply, Applied, Release, Offer, Need, Piece, Ready, OpenView}
+use Rattle.gum_messages.specs.Messages.{Sent}
+use Rattle.cluster_rules.specs.declared.offering.Offering.{Offering}
+use Rattle.cluster_rules.specs.Nodes.{NodeState, Out, done_of, halts, locker_at, nothing, number_of, place_of, tells}
 use Rattle.cluster_rules.specs.Updates.{Answer, InDoubt, Logged, Unwritten, Written, answers, applied, applies, begins, entry_for, has_logged, may_submit, on_applied, on_apply, on_ask, on_granted, opens, proceeds, submit, unlogged, without_head}
 use Rattle.cluster_rules.specs.Joins.{done_within, entered, follows, gathers, goes_on, hears_itself, joined, known_done, last_of, marks_ready, on_need, on_offer, on_open_view, on_piece, on_ready, piece, recovers, says_ready, sends_piece, takes_view, with_replica}
 use Rattle.cluster_rules.specs.Receiving.{checkpoint, clock, receive, tick}
@@ -90,8 +94,8 @@ module _ {M : Machine} where
 
   answer_stays : (x : NodeState M) (e : Entry) (answer : Answer) → let l : Logged M = elim answer [
     | Written ↦ record { out = tells (has_logged x e) e.id.node (Granted e); appended = Some e; doubtful = None }
-    | InDoubt ↦ record { out = halts; appended = None; doubtful = Some e }
-    | Unwritten ↦ unlogged halts
+    | InDoubt ↦ record { out = halts halt.Disk; appended = None; doubtful = Some e }
+    | Unwritten ↦ unlogged (halts halt.Disk)
   ] in Stays x l.out
   answer_stays x e Written = stays_same x (has_logged x e) refl
   answer_stays x e InDoubt = stays_halts x
@@ -179,7 +183,7 @@ module _ {M : Machine} where
   hears_stays x from Ready held answer = ready_stays x from
   hears_stays x from OpenView held answer = open_view_stays x from
 
-  pub receive_stays : (x : NodeState M) (p : Packet) (held : ℕ) (answer : Answer) → Stays x (receive x p held answer).out
+  pub receive_stays : (x : NodeState M) (p : Sent) (held : ℕ) (answer : Answer) → Stays x (receive x p held answer).out
   receive_stays x p held answer = if_cases (λ (d : Logged M). Stays x d.out) (receiving.counts x p) _ _ (λ g. hears_stays x p.from p.body held answer) (λ g. stays_same x x refl)
 
   pub checkpoint_stays : (x : NodeState M) (held : ℕ) (good : Bool) → Stays x (checkpoint x held good)
@@ -250,7 +254,7 @@ module _ {M : Machine} where
       (λ g.
       let up : x.join.view.number < v.number = lt_true x.join.view.number v.number (and_true (nat_lt x.join.view.number v.number) (is_member v.members x.join.node x.join.inc) g).0 in
       let nz : v.number ≢ 0 = λ e. absurd (omega arith) in
-      let dies : (u : World M) → u.nodes ≡ w.nodes → Lockers (absorb n halts u) = λ u e. lockers_absorb w (absorb n halts u) n None h (ap (λ (f : ℕ → Option (NodeState M)). put f n None) e) (λ y q. absurd (cc)) in
+      let dies : (u : World M) → u.nodes ≡ w.nodes → Lockers (absorb n (halts halt.Disk) u) = λ u e. lockers_absorb w (absorb n (halts halt.Disk) u) n None h (ap (λ (f : ℕ → Option (NodeState M)). put f n None) e) (λ y q. absurd (cc)) in
       if_cases P (is_locker v.members x.join.node) _ _
       (λ lk. if_cases P (nat_lt v.number w.log.held) _ _
       (λ f. dies w refl)
@@ -261,11 +265,11 @@ module _ {M : Machine} where
       absurd (locker_not (is_locker v.members x.join.node) l nl)))))
       (λ g. h)
     where
-      opened_lockers : (opening : Opening) → takes_view x v ≡ true → v.number ≢ 0 → ((u : World M) → u.nodes ≡ w.nodes → Lockers (absorb n halts u)) → Lockers (elim opening [
+      opened_lockers : (opening : Opening) → takes_view x v ≡ true → v.number ≢ 0 → ((u : World M) → u.nodes ≡ w.nodes → Lockers (absorb n (halts halt.Disk) u)) → Lockers (elim opening [
         | Recovered found ↦ absorb n (recovers (entered v x) w.log.cap (found_log found w.log).order) (with_log (claimed v.number (found_log found w.log)) w)
-        | Refused raised ↦ absorb n halts (with_log (raise raised v.number w.log) w)
+        | Refused raised cause ↦ absorb n (halts cause) (with_log (raise raised v.number w.log) w)
       ])
       opened_lockers (Recovered found) g nz dies = subst (λ (y : NodeState M). Lockers (absorb n (recovers y w.log.cap (found_log found w.log).order) (with_log (claimed v.number (found_log found w.log)) w))) (sym (entered_is x v g))
           (lockers_absorb w (absorb n (recovers (taken_view v x) w.log.cap (found_log found w.log).order) (with_log (claimed v.number (found_log found w.log)) w)) n (recovers (taken_view v x) w.log.cap (found_log found w.log).order).node h refl
           (λ y q lk z. recovers_ready (taken_view v x) w.log.cap (found_log found w.log).order nz refl y q))
-      opened_lockers (Refused raised) g nz dies = dies (with_log (raise raised v.number w.log) w) refl
+      opened_lockers (Refused raised cause) g nz dies = dies (with_log (raise raised v.number w.log) w) refl

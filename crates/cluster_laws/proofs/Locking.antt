@@ -8,7 +8,8 @@ use Rattle.gum_core.specs.Updating.{CoreState}
 use Rattle.view_reconcile.specs.Joining.{ReconcileState}
 use Rattle.view_reconcile.specs.Joining as joining
 use Rattle.cluster_rules.specs.Machines.{Machine}
-use Rattle.cluster_rules.specs.Packets.{Packet, Release}
+use Rattle.gum_messages.specs.declared.body.Body.TheVariants.{Release}
+use Rattle.gum_messages.specs.Messages.{Sent}
 use Rattle.cluster_rules.specs.Nodes.{NodeState, done_of, nothing}
 use Rattle.cluster_rules.specs.Updates.{on_release}
 use Rattle.cluster_rules.specs.Worlds.{World, absorb}
@@ -93,7 +94,7 @@ module _ {M : Machine} where
           finished = h.finished;
           lock = λ t e. absurd (cc);
         });
-        messages = none_told (λ (p : Packet). Pooled (moved w n y []) p);
+        messages = none_told (λ (p : Sent). Pooled (moved w n y []) p);
         acks = none_acked (λ (a b : ℕ). AckOk (moved w n y []) a b);
         points = quiet_points w n y [] refl;
         owner = λ o.

@@ -11,8 +11,11 @@ use Rattle.view_reconcile.specs.Joining.{ReconcileState}
 use Rattle.view_reconcile.specs.Joining as joining
 use Rattle.view_reconcile.specs.Chains.{view_in}
 use Rattle.cluster_rules.specs.Machines.{Machine}
-use Rattle.cluster_rules.specs.Packets.{Body, Packet}
-use Rattle.cluster_rules.specs.Nodes.{Effect, NodeState, Out, Send, becomes, done_of, nothing, packet, tells}
+use Rattle.gum_messages.specs.declared.body.Body.{Body}
+use Rattle.gum_messages.specs.Messages.{Sent}
+use Rattle.cluster_rules.specs.declared.effect.Effect.{Effect}
+use Rattle.cluster_rules.specs.declared.effect.Effect.TheVariants.{Send}
+use Rattle.cluster_rules.specs.Nodes.{NodeState, Out, becomes, done_of, nothing, packet, tells}
 use Rattle.cluster_rules.specs.Worlds.{Point, World, absorb, acked, answered, put, sent}
 use Rattle.cluster_laws.proofs.Inv.{AckOk, Invariant, LogOk, MemberOk, MsgOk, NodeOk, Owner, OwnerOk, Past, Pooled, Reached, Requested}
 use Rattle.cluster_laws.proofs.Stable.{AskedOnly, Ext, Grown, all_reached, asked_, entered_, grown_refl, longer_refl, past, pooled, reached, was_ready}
@@ -53,15 +56,15 @@ answered_get n i (a ∷ l) zero p e =
 answered_get n i (a ∷ l) (suc k) p e = answered_get n i l k p e
 
 -- what is told, one by one
-pub one_told : (P : Packet → Type 0) (p : Packet) → P p → (k : ℕ) (m : Packet) → slice_get (p ∷ []) k ≡ Some m → P m
+pub one_told : (P : Sent → Type 0) (p : Sent) → P p → (k : ℕ) (m : Sent) → slice_get (p ∷ []) k ≡ Some m → P m
 one_told P p h zero m e = let g : p ≡ m = cc in subst P g h
 one_told P p h (suc k) m e = absurd (cc)
 
-pub two_told : (P : Packet → Type 0) (p q : Packet) → P p → P q → (k : ℕ) (m : Packet) → slice_get (p ∷ q ∷ []) k ≡ Some m → P m
+pub two_told : (P : Sent → Type 0) (p q : Sent) → P p → P q → (k : ℕ) (m : Sent) → slice_get (p ∷ q ∷ []) k ≡ Some m → P m
 two_told P p q h i zero m e = let g : p ≡ m = cc in subst P g h
 two_told P p q h i (suc k) m e = one_told P q i k m e
 
-pub none_told : (P : Packet → Type 0) (k : ℕ) (m : Packet) → slice_get (sent []) k ≡ Some m → P m
+pub none_told : (P : Sent → Type 0) (k : ℕ) (m : Sent) → slice_get (sent []) k ≡ Some m → P m
 none_told P k m e = absurd (cc)
 
 pub none_acked : (P : ℕ → ℕ → Type 0) (k v p : ℕ) → slice_get (acked []) k ≡ Some (v, p) → P v p
@@ -206,7 +209,7 @@ module _ {M : Machine} where
   pub record MoveOk (w : World M) (rq : ℕ → ℕ → List Update) (ps : List Point) (n : ℕ) (x y : NodeState M) (es : List Effect) : Type 0 where
     pub grown : Grown x y
     pub node : NodeOk (moved (with_history w rq ps) n y es) n y
-    pub messages : (k : ℕ) (p : Packet) → slice_get (sent es) k ≡ Some p → Pooled (moved (with_history w rq ps) n y es) p
+    pub messages : (k : ℕ) (p : Sent) → slice_get (sent es) k ≡ Some p → Pooled (moved (with_history w rq ps) n y es) p
     pub acks : (k v p : ℕ) → slice_get (acked es) k ≡ Some (v, p) → AckOk (moved (with_history w rq ps) n y es) v p
     pub owner : Owner (moved (with_history w rq ps) n y es) n y → OwnerOk (moved (with_history w rq ps) n y es) n y
     pub points : PointsOk w n y es
@@ -329,7 +332,7 @@ module _ {M : Machine} where
       }
 
   -- a node stays as it is, and sends at most one message
-  pub stay_tells : (w : World M) (n : ℕ) (x : NodeState M) (es : List Effect) → Invariant w → w.nodes n ≡ Some x → acked es ≡ [] → ((k : ℕ) (p : Packet) → slice_get (sent es) k ≡ Some p → Pooled (moved w n x es) p) → Invariant (moved w n x es)
+  pub stay_tells : (w : World M) (n : ℕ) (x : NodeState M) (es : List Effect) → Invariant w → w.nodes n ≡ Some x → acked es ≡ [] → ((k : ℕ) (p : Sent) → slice_get (sent es) k ≡ Some p → Pooled (moved w n x es) p) → Invariant (moved w n x es)
   stay_tells w n x es j at na ms = move_keeps w n x x es j at (record {
     grown = grown_refl x;
     node = node_in w n x x es j at (grown_refl x) (j.nodes n x at);
@@ -341,10 +344,10 @@ module _ {M : Machine} where
   })
 
   pub stay_sends : (w : World M) (n : ℕ) (x : NodeState M) (to : ℕ) (b : Body) → Invariant w → w.nodes n ≡ Some x → Pooled (moved w n x (Send (packet x to b) ∷ [])) (packet x to b) → Invariant (absorb n (tells x to b) w)
-  stay_sends w n x to b j at p = stay_tells w n x (Send (packet x to b) ∷ []) j at refl (one_told (λ (q : Packet). Pooled (moved w n x (Send (packet x to b) ∷ [])) q) (packet x to b) p)
+  stay_sends w n x to b j at p = stay_tells w n x (Send (packet x to b) ∷ []) j at refl (one_told (λ (q : Sent). Pooled (moved w n x (Send (packet x to b) ∷ [])) q) (packet x to b) p)
 
   pub stay_keeps : (w : World M) (n : ℕ) (x : NodeState M) → Invariant w → w.nodes n ≡ Some x → Invariant (absorb n (nothing x) w)
-  stay_keeps w n x j at = stay_tells w n x [] j at refl (none_told (λ (q : Packet). Pooled (moved w n x []) q))
+  stay_keeps w n x j at = stay_tells w n x [] j at refl (none_told (λ (q : Sent). Pooled (moved w n x []) q))
 
   pub reached_self : (w : World M) (n : ℕ) (y : NodeState M) (es : List Effect) (i k : ℕ) → i ≤ w.starts n → k ≤ done_of y → Reached (moved w n y es) n i k
   reached_self w n y es i k s d = record { started = s; done = λ z e same. self_node w n y es (λ (t : NodeState M). k ≤ done_of t) d z e }

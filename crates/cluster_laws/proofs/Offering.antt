@@ -14,8 +14,12 @@ use Rattle.view_reconcile.specs.declared.step.Step.TheVariants as step
 use Rattle.view_reconcile.specs.Joining.{ReconcileState}
 use Rattle.view_reconcile.specs.Joining as joining
 use Rattle.cluster_rules.specs.Machines.{Machine, IsMachine, registry_at}
-use Rattle.cluster_rules.specs.Packets.{Packet, Offer, Need, Piece, Ready}
-use Rattle.cluster_rules.specs.Nodes.{Effect, NodeState, Offering, Out, Replica, Send, done_of, has_state, locker_at, nothing, packet, place_of, tells}
+use Rattle.gum_messages.specs.declared.body.Body.TheVariants.{Offer, Need, Piece, Ready}
+use Rattle.gum_messages.specs.Messages.{Sent}
+use Rattle.cluster_rules.specs.declared.effect.Effect.{Effect}
+use Rattle.cluster_rules.specs.declared.effect.Effect.TheVariants.{Send}
+use Rattle.cluster_rules.specs.declared.offering.Offering.{Offering}
+use Rattle.cluster_rules.specs.Nodes.{NodeState, Out, Replica, done_of, has_state, locker_at, nothing, packet, place_of, tells}
 use Rattle.cluster_rules.specs.Updates.{applied}
 use Rattle.cluster_rules.specs.Joins.{follows, gathers, joined, known_done, on_need, on_offer, on_piece, piece, says_ready, sends_piece, shows, takes_state, with_replica}
 use Rattle.cluster_rules.specs.Worlds.{World, absorb}
@@ -100,7 +104,7 @@ module _ {M : Machine} where
   says_keeps w n x s last out j at k nl y eq =
       let z : NodeState M = readied x s last out in
       ready_keeps w n x s last out (λ (t : NodeState M). Send (packet t (locker_at t) Ready) ∷ []) j at k y eq
-      (λ ok. one_told (λ (p : Packet). Pooled (moved w n z (Send (packet z (locker_at z) Ready) ∷ [])) p) (packet z (locker_at z) Ready) (ready_sent w n x z (Send (packet z (locker_at z) Ready) ∷ []) (locker_at z) (j.nodes n x at) k.view refl refl refl ok refl))
+      (λ ok. one_told (λ (p : Sent). Pooled (moved w n z (Send (packet z (locker_at z) Ready) ∷ [])) p) (packet z (locker_at z) Ready) (ready_sent w n x z (Send (packet z (locker_at z) Ready) ∷ []) (locker_at z) (j.nodes n x at) k.view refl refl refl ok refl))
       refl
       (λ o. absurd (locker_not (joining.locks x.join) o.locker nl))
 
@@ -163,7 +167,7 @@ module _ {M : Machine} where
           spreading = λ s e. absurd (not_open ((h.spreading s e).3));
           behind = λ r c wt st id rd. absurd (no_ready rd);
         });
-        messages = one_told (λ (p : Packet). Pooled (moved w n y es) p) (packet y (locker_at x) (Need offset)) (told w n x y es (locker_at x) (Need offset) h nz refl refl tt);
+        messages = one_told (λ (p : Sent). Pooled (moved w n y es) p) (packet y (locker_at x) (Need offset)) (told w n x y es (locker_at x) (Need offset) h nz refl refl tt);
         acks = none_acked (λ (a b : ℕ). AckOk (moved w n y es) a b);
         points = quiet_points w n y es refl;
         owner = λ o. absurd (no_ready o.ready);

@@ -14,8 +14,12 @@ use Rattle.view_reconcile.specs.declared.step.Step.{Step}
 use Rattle.view_reconcile.specs.Joining.{ReconcileState}
 use Rattle.view_reconcile.specs.Joining as joining
 use Rattle.cluster_rules.specs.Machines.{Machine}
-use Rattle.cluster_rules.specs.Packets.{Body, Packet, Ready, OpenView}
-use Rattle.cluster_rules.specs.Nodes.{Acked, Effect, Halted, NodeState, Opened, Out, Send, after, asks, becomes, done_of, locker_at, nothing, packet, to_each}
+use Rattle.gum_messages.specs.declared.body.Body.{Body}
+use Rattle.gum_messages.specs.declared.body.Body.TheVariants.{Ready, OpenView}
+use Rattle.gum_messages.specs.Messages.{Sent}
+use Rattle.cluster_rules.specs.declared.effect.Effect.{Effect}
+use Rattle.cluster_rules.specs.declared.effect.Effect.TheVariants.{Acked, Batched, Closed, Halted, Opened, Reply, Send}
+use Rattle.cluster_rules.specs.Nodes.{NodeState, Out, after, asks, becomes, done_of, locker_at, nothing, packet, to_each}
 use Rattle.cluster_rules.specs.Updates.{begins, opens}
 use Rattle.cluster_rules.specs.Joins.{marks_ready, on_open_view, on_ready, opens_view}
 use Rattle.cluster_rules.specs.Worlds.{Point, World, absorb, acked, answered, put, sent}
@@ -39,17 +43,23 @@ put_put f n a b = λ i m. e m i
 
 pub sent_append : (a b : List Effect) → sent (a ++ b) ≡ sent a ++ sent b
 sent_append [] b = refl
-sent_append (Send p ∷ a) b = ap (λ (l : List Packet). p ∷ l) (sent_append a b)
+sent_append (Send p ∷ a) b = ap (λ (l : List Sent). p ∷ l) (sent_append a b)
 sent_append (Acked v k ∷ a) b = sent_append a b
 sent_append (Opened v ∷ a) b = sent_append a b
-sent_append (Halted ∷ a) b = sent_append a b
+sent_append (Halted c ∷ a) b = sent_append a b
+sent_append (Reply c p bs ∷ a) b = sent_append a b
+sent_append (Closed c d ∷ a) b = sent_append a b
+sent_append (Batched q p s i ∷ a) b = sent_append a b
 
 pub acked_append : (a b : List Effect) → acked (a ++ b) ≡ acked a ++ acked b
 acked_append [] b = refl
 acked_append (Send p ∷ a) b = acked_append a b
 acked_append (Acked v k ∷ a) b = ap (λ (l : List (ℕ × ℕ)). (v, k) ∷ l) (acked_append a b)
 acked_append (Opened v ∷ a) b = acked_append a b
-acked_append (Halted ∷ a) b = acked_append a b
+acked_append (Halted c ∷ a) b = acked_append a b
+acked_append (Reply c p bs ∷ a) b = acked_append a b
+acked_append (Closed c d ∷ a) b = acked_append a b
+acked_append (Batched q p s i ∷ a) b = acked_append a b
 
 pub answered_append : (n i : ℕ) (a b : List (ℕ × ℕ)) → answered n i (a ++ b) ≡ answered n i a ++ answered n i b
 answered_append n i [] b = refl
@@ -65,7 +75,7 @@ there_put f n v = grind arith
 module _ {M : Machine} where
   pub two_moves : (w : World M) (n : ℕ) (y : NodeState M) (es : List Effect) (o : Out M) → absorb n o (moved w n y es) ≡ absorb n (after es o) w
   two_moves w n y es o =
-      let p : (w.pool ++ sent es) ++ sent o.effects ≡ w.pool ++ sent (es ++ o.effects) = append_assoc w.pool (sent es) (sent o.effects) ∙ ap (λ (l : List Packet). w.pool ++ l) (sym (sent_append es o.effects)) in
+      let p : (w.pool ++ sent es) ++ sent o.effects ≡ w.pool ++ sent (es ++ o.effects) = append_assoc w.pool (sent es) (sent o.effects) ∙ ap (λ (l : List Sent). w.pool ++ l) (sym (sent_append es o.effects)) in
       let a : (w.acks ++ acked es) ++ acked o.effects ≡ w.acks ++ acked (es ++ o.effects) = append_assoc w.acks (acked es) (acked o.effects) ∙ ap (λ (l : List (ℕ × ℕ)). w.acks ++ l) (sym (acked_append es o.effects)) in
       let b : (w.points ++ answered n (w.starts n) (acked es)) ++ answered n (w.starts n) (acked o.effects) ≡ w.points ++ answered n (w.starts n) (acked (es ++ o.effects)) = append_assoc w.points (answered n (w.starts n) (acked es)) (answered n (w.starts n) (acked o.effects)) ∙ ap (λ (l : List Point). w.points ++ l) (sym (answered_append n (w.starts n) (acked es) (acked o.effects)) ∙ ap (answered n (w.starts n)) (sym (acked_append es o.effects))) in
       λ i. record w { nodes = put_put w.nodes n (Some y) o.node i; pool = p i; acks = a i; points = b i }
@@ -78,7 +88,7 @@ module _ {M : Machine} where
   no_acks x b (m ∷ ms) = no_acks x b ms
 
   -- each of these messages is to a member
-  pub each_to : (P : Packet → Type 0) (x : NodeState M) (b : Body) (ms : List Member) → ((to : ℕ) → P (packet x to b)) → (k : ℕ) (m : Packet) → slice_get (sent (to_each x b ms)) k ≡ Some m → P m
+  pub each_to : (P : Sent → Type 0) (x : NodeState M) (b : Body) (ms : List Member) → ((to : ℕ) → P (packet x to b)) → (k : ℕ) (m : Sent) → slice_get (sent (to_each x b ms)) k ≡ Some m → P m
   each_to P x b [] h = none_told P
   each_to P x b (m ∷ ms) h = cons_told P (packet x m.node b) (sent (to_each x b ms)) (h m.node) (each_to P x b ms h)
 
@@ -104,7 +114,7 @@ module _ {M : Machine} where
       }
 
   pub open_keeps : (w : World M) (n : ℕ) (x : NodeState M) (es : List Effect) → Invariant w → w.nodes n ≡ Some x → joining.is_ready x.join ≡ true → joining.is_open x.join ≡ false → x.settled ≡ None → AllWere w x → acked es ≡ []
-      → ((k : ℕ) (p : Packet) → slice_get (sent es) k ≡ Some p → Pooled (moved w n (opened_node x) es) p) → Invariant (moved w n (opened_node x) es)
+      → ((k : ℕ) (p : Sent) → slice_get (sent es) k ≡ Some p → Pooled (moved w n (opened_node x) es) p) → Invariant (moved w n (opened_node x) es)
   open_keeps w n x es j at rd shut us were na ms =
       let h : NodeOk w n x = j.nodes n x at in
       let y : NodeState M = opened_node x in
@@ -178,7 +188,7 @@ module _ {M : Machine} where
       let h : NodeOk w n x = j.nodes n x at in
       let rd : joining.is_ready x.join ≡ true = open_is_ready x.join op in
       let es : List Effect = asks x next in
-      stay_tells w n x es j at (asks_acks x next) (asks_told (λ (p : Packet). Pooled (moved w n x es) p) x next (λ req u us some e.
+      stay_tells w n x es j at (asks_acks x next) (asks_told (λ (p : Sent). Pooled (moved w n x es) p) x next (λ req u us some e.
       let full : x.core.queue ≢ [] = λ z. absurd (let y : ◌≡◌ {A = List Update} (u ∷ us) [] = sym e ∙ z in cc) in
       let same : req ≡ x.core.passed + 1 = rq req some in
       ask_told w n x x es req u j at (grown_refl x) refl refl refl rd (omega (arith, full_asks x full)) (head_requested w n x u us req h e same) (λ r c st id i. h.behind r c (full, h.unsettled op) st (record { node = id.node; inc = id.inc; req = id.req ∙ same }) rd i)))
@@ -209,7 +219,7 @@ module _ {M : Machine} where
       )
 
   -- an acknowledgement may stand before what was sent
-  pub acked_first : (w : World M) (n : ℕ) (o : Option (NodeState M)) (es as_ : List Effect) (v k : ℕ) → acked es ≡ [] → absorb n (record { node = o; effects = Acked v k ∷ (es ++ as_) }) w ≡ absorb n (record { node = o; effects = es ++ (Acked v k ∷ as_) }) w
+  pub acked_first : (w : World M) (n : ℕ) (o : Option (NodeState M)) (es as_ : List Effect) (v k : ℕ) → acked es ≡ [] → absorb n (record { node = o; effects = Acked v k ∷ (es ++ as_); outcome = None }) w ≡ absorb n (record { node = o; effects = es ++ (Acked v k ∷ as_); outcome = None }) w
   acked_first w n o es as_ v k e =
       let p : sent (es ++ as_) ≡ sent (es ++ (Acked v k ∷ as_)) = sent_append es as_ ∙ sym (sent_append es (Acked v k ∷ as_)) in
       let a : (v, k) ∷ acked (es ++ as_) ≡ acked (es ++ (Acked v k ∷ as_)) =
@@ -220,14 +230,14 @@ module _ {M : Machine} where
   pub told_here : (w : World M) (n : ℕ) (x : NodeState M) (to : ℕ) (b : Body) → NodeOk w n x → x.join.view.number ≢ 0 → MsgOk w x.join.view n to b → Pooled w (packet x to b)
   told_here w n x to b h nz ok = record { view = x.join.view; declared = (h.view nz).0; number = refl; ok = subst (λ (m : ℕ). MsgOk w x.join.view m to b) (sym h.node) ok }
 
-  pub pooled_on : (w w' : World M) (p : Packet) → Invariant w → Ext w w' → Pooled w p → Pooled w' p
+  pub pooled_on : (w w' : World M) (p : Sent) → Invariant w → Ext w w' → Pooled w p → Pooled w' p
   pooled_on w w' p j e = pooled w w' p e (λ r s. (j.log.asked r s).1) (λ v c f. (j.log.counts v c f).0)
 
   pub opened_grown : (x : NodeState M) → Grown x (opened_node x)
   opened_grown x = record { inc = refl; done = omega arith; passed = omega arith; asks = omega arith; view = omega arith; settled = λ k e. inl e; waits = λ e q z. z }
 
   -- it opens, and sends what its world has already
-  pub opens_first : (w : World M) (n : ℕ) (x : NodeState M) (es : List Effect) → Invariant w → w.nodes n ≡ Some x → joining.is_ready x.join ≡ true → joining.is_open x.join ≡ false → x.settled ≡ None → AllWere w x → acked es ≡ [] → ((k : ℕ) (p : Packet) → slice_get (sent es) k ≡ Some p → Pooled w p) → Invariant (moved w n (opened_node x) es)
+  pub opens_first : (w : World M) (n : ℕ) (x : NodeState M) (es : List Effect) → Invariant w → w.nodes n ≡ Some x → joining.is_ready x.join ≡ true → joining.is_open x.join ≡ false → x.settled ≡ None → AllWere w x → acked es ≡ [] → ((k : ℕ) (p : Sent) → slice_get (sent es) k ≡ Some p → Pooled w p) → Invariant (moved w n (opened_node x) es)
   opens_first w n x es j at rd shut us were na ms =
       open_keeps w n x es j at rd shut us were na (λ k p s. pooled_on w (moved w n (opened_node x) es) p j (ext_absorb w n x (opened_node x) es at (opened_grown x)) (ms k p s))
 
@@ -237,9 +247,9 @@ module _ {M : Machine} where
       let d = settled_done w n x k j at rd were full set_ in
       let es : List Effect = Acked x.join.view.number d.0.place ∷ [] in
       subst (λ (p : ℕ). Invariant (moved w n (popped x) (Acked x.join.view.number p ∷ []))) d.2
-      (head_keeps w n x (x.core.passed + 1) (drop 1 x.core.queue) None None None None es j at (pop_ok w n x d.0 es j at d.1 refl (none_told (λ (p : Packet). Pooled (moved w n (popped x) es) p))))
+      (head_keeps w n x (x.core.passed + 1) (drop 1 x.core.queue) None None None None es j at (pop_ok w n x d.0 es j at d.1 refl (none_told (λ (p : Sent). Pooled (moved w n (popped x) es) p))))
 
-  pub settles_keeps : (w : World M) (n : ℕ) (x : NodeState M) (es : List Effect) (k : ℕ) → Invariant w → w.nodes n ≡ Some x → joining.is_ready x.join ≡ true → joining.is_open x.join ≡ false → AllWere w x → acked es ≡ [] → ((k : ℕ) (p : Packet) → slice_get (sent es) k ≡ Some p → Pooled w p)
+  pub settles_keeps : (w : World M) (n : ℕ) (x : NodeState M) (es : List Effect) (k : ℕ) → Invariant w → w.nodes n ≡ Some x → joining.is_ready x.join ≡ true → joining.is_open x.join ≡ false → AllWere w x → acked es ≡ [] → ((k : ℕ) (p : Sent) → slice_get (sent es) k ≡ Some p → Pooled w p)
       → x.core.queue ≢ [] → x.settled ≡ Some k → Invariant (absorb n (after es (begins (record x { join = record x.join { stage = stage.Open } }) (updating.finished (record x.core { is_open = true }) k))) w)
   settles_keeps w n x es k j at rd shut were na ms full set_ =
       let a1 : List Effect = Acked x.join.view.number k ∷ [] in
@@ -257,7 +267,7 @@ module _ {M : Machine} where
       subst (λ (v : World M). Invariant v) (two_moves w1 n x2 es o ∙ two_moves w n x1 a1 (after es o) ∙ acked_first w n (Some x2) es (asks x2 next) x.join.view.number k na) j3
 
   -- it opens, and goes on
-  pub opens_keeps : (w : World M) (n : ℕ) (x : NodeState M) (es : List Effect) → Invariant w → w.nodes n ≡ Some x → joining.is_ready x.join ≡ true → joining.is_open x.join ≡ false → AllWere w x → acked es ≡ [] → ((k : ℕ) (p : Packet) → slice_get (sent es) k ≡ Some p → Pooled w p)
+  pub opens_keeps : (w : World M) (n : ℕ) (x : NodeState M) (es : List Effect) → Invariant w → w.nodes n ≡ Some x → joining.is_ready x.join ≡ true → joining.is_open x.join ≡ false → AllWere w x → acked es ≡ [] → ((k : ℕ) (p : Sent) → slice_get (sent es) k ≡ Some p → Pooled w p)
       → Invariant (absorb n (after es (begins (record x { join = record x.join { stage = stage.Open } }) (updating.opened x.core x.settled))) w)
   opens_keeps w n x es j at rd shut were na ms =
       let h : NodeOk w n x = j.nodes n x at in
@@ -340,7 +350,7 @@ module _ {M : Machine} where
               (λ (c : joining.is_marked x.join m ≡ true). h.marked m c pos)
               (marked_says x.join from m pos e);
         });
-        messages = none_told (λ (p : Packet). Pooled (moved w n y []) p);
+        messages = none_told (λ (p : Sent). Pooled (moved w n y []) p);
         acks = none_acked (λ (a b : ℕ). AckOk (moved w n y []) a b);
         points = quiet_points w n y [] refl;
         owner = owner_moves w n x y [] j at (record { ready = refl; open_ = refl; node = refl; view = refl; lock = refl; members = refl; greatest = refl; done = refl }) (λ o k op i. let old : MemberOk w.log x.core.lock n x = k.members op n x at i in record { near = old.near; free = old.free; heads = old.heads });
@@ -371,7 +381,7 @@ module _ {M : Machine} where
       let z : NodeState M = record x { join = record x.join { stage = stage.Open } } in
       let es : List Effect = Opened x.join.view.number ∷ to_each z OpenView (spread_of x.join.view.members) in
       opens_keeps w n x es j at a.0 shut a.1 (no_acks z OpenView (spread_of x.join.view.members))
-      (each_to (λ (p : Packet). Pooled w p) z OpenView (spread_of x.join.view.members) (λ to. told_here w n x to OpenView h (h.ready_view a.0) a.1))
+      (each_to (λ (p : Sent). Pooled w p) z OpenView (spread_of x.join.view.members) (λ to. told_here w n x to OpenView h (h.ready_view a.0) a.1))
 
   pub on_ready_keeps : (w : World M) (n : ℕ) (x : NodeState M) (from : ℕ) → Invariant w → w.nodes n ≡ Some x → x.join.view.number ≢ 0 → MsgOk w x.join.view from n Ready → Invariant (absorb n (on_ready x from) w)
   on_ready_keeps w n x from j at nz ok =
@@ -394,7 +404,7 @@ module _ {M : Machine} where
       let P : ReconcileState × Bool → Type 0 = λ r. Q (if nat_eq from (locker_at x) && r.1 then opens (record x { join = r.0 }) else nothing x) in
       opened_cases P x.join
       (λ rd shut. if_cases Q (nat_eq from (locker_at x) && true) _ _
-      (λ g. opens_keeps w n x (Opened x.join.view.number ∷ []) j at rd shut ok refl (none_told (λ (p : Packet). Pooled w p)))
+      (λ g. opens_keeps w n x (Opened x.join.view.number ∷ []) j at rd shut ok refl (none_told (λ (p : Sent). Pooled w p)))
       (λ g. stay_keeps w n x j at))
       (if_cases Q (nat_eq from (locker_at x) && false) _ _ (λ g. absurd (cc_false (nat_eq from (locker_at x)) g)) (λ g. stay_keeps w n x j at))
     where

@@ -1,5 +1,5 @@
 -- The update order only grows, by a record at a time, and a run goes on from where it stands.
-use Rattle.std.proofs.Common.{◌≡◌, ◌⊎◌, inl, inr, ⊎_elim, ℕ, ◌+◌, ◌≤◌, Bool, true, false, ◌&&◌, List, [], ◌∷◌, ◌++◌, length, Option, Some, None, nat_lt, if◌then◌else◌, refl, sym, ap, ◌∙◌, subst, arith}
+use Rattle.std.proofs.Common.{◌≡◌, ◌⊎◌, inl, inr, ⊎_elim, ℕ, ◌+◌, ◌≤◌, Bool, true, false, ◌&&◌, List, [], ◌∷◌, ◌++◌, length, Option, Some, None, nat_lt, if◌then◌else◌, refl, sym, ap, ◌∙◌, subst, arith, append_assoc}
 use Rattle.gum_messages.specs.declared.view.View.{View}
 use Rattle.gum_messages.specs.Members.{is_locker}
 use Rattle.gum_messages.specs.Places.{at_place}
@@ -15,7 +15,7 @@ use Rattle.cluster_rules.specs.Updates.{may_submit, submit}
 use Rattle.cluster_rules.specs.Joins.{entered, recovers, takes_view}
 use Rattle.cluster_rules.specs.Receiving.{checkpoint, clock, receive, tick}
 use Rattle.cluster_rules.specs.Worlds.{Checkpoint, Clock, Declare, Deliver, Die, DieInDeliver, DieInInstall, Event, Install, Log, Opening, Read, Recovered, Refused, Start, Submit, Tick, World, absorb, append, claimed, deliver, die_in_deliver, die_in_install, found_log, happens, install, leave, logs, may_declare, noted, opening, opens_log, put, raise, reads, run, stopped, with_log, written}
-use Rattle.std.proofs.lemmas.List.{take-append-le}
+use Rattle.std.proofs.lemmas.List.{append-nil, take-append-le}
 use Rattle.cluster_laws.proofs.Growth.{length_snoc}
 use Rattle.cluster_laws.proofs.Theorem.{at_keeps}
 
@@ -56,10 +56,10 @@ module _ {M : Machine} where
 
   opening_step : (w : World M) (n : ℕ) (x : NodeState M) (v : View) (opening : Opening) → Extends w (elim opening [
     | Recovered found ↦ absorb n (recovers (entered v x) w.log.cap (found_log found w.log).order) (with_log (claimed v.number (found_log found w.log)) w)
-    | Refused raised ↦ absorb n halts (with_log (raise raised v.number w.log) w)
+    | Refused raised cause ↦ absorb n (halts cause) (with_log (raise raised v.number w.log) w)
   ])
   opening_step w n x v (Recovered found) = let g = found_grew w.log found in record { order = g.order; cap = g.cap }
-  opening_step w n x v (Refused raised) = raise_grew w.log raised v.number
+  opening_step w n x v (Refused raised cause) = raise_grew w.log raised v.number
 
   pub install_step : (w : World M) (n : ℕ) (x : NodeState M) (v : View) (opening : Opening) → Extends w (install w n x v opening)
   install_step w n x v opening =
@@ -115,3 +115,23 @@ module _ {M : Machine} where
   pub run_more : (es : List Event) (e : Event) (w : World M) → run (es ++ e ∷ []) w ≡ happens (run es w) e
   run_more [] e w = refl
   run_more (a ∷ es) e w = run_more es e (happens w a)
+
+  -- events that come one list after the other
+  pub run_append : (es fs : List Event) (w : World M) → run (es ++ fs) w ≡ run fs (run es w)
+  run_append [] fs w = refl
+  run_append (e ∷ es) fs w = run_append es fs (happens w e)
+
+  -- the order only grows
+  pub order_grows : (es : List Event) (w : World M) → (rest : List Entry) × ((run es w).log.order ≡ w.log.order ++ rest)
+  order_grows [] w = ([], sym (append-nil w.log.order))
+  order_grows (e ∷ es) w =
+      let g : (rest : List Entry) × ((run es (happens w e)).log.order ≡ (happens w e).log.order ++ rest) = order_grows es (happens w e) in
+      ⊎_elim
+      (λ (a : (happens w e).log.order ≡ w.log.order). (g.0, g.1 ∙ ap (λ (l : List Entry). l ++ g.0) a))
+      (λ (a : (r : Entry) × ((happens w e).log.order ≡ w.log.order ++ r ∷ [])). (a.0 ∷ g.0, g.1 ∙ ap (λ (l : List Entry). l ++ g.0) a.1 ∙ append_assoc w.log.order (a.0 ∷ []) g.0))
+      (happens_step w e).order
+
+  pub all_grow : (w : World M) (es more : List Event) → (rest : List Entry) × ((run (es ++ more) w).log.order ≡ (run es w).log.order ++ rest)
+  all_grow w es more =
+      let g : (rest : List Entry) × ((run more (run es w)).log.order ≡ (run es w).log.order ++ rest) = order_grows more (run es w) in
+      (g.0, ap (λ (v : World M). v.log.order) (run_append es more w) ∙ g.1)

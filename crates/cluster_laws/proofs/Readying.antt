@@ -11,8 +11,9 @@ use Rattle.view_reconcile.specs.declared.stage.Stage.TheVariants as stage
 use Rattle.view_reconcile.specs.Joining.{ReconcileState}
 use Rattle.view_reconcile.specs.Joining as joining
 use Rattle.cluster_rules.specs.Machines.{Machine, outcome_at, registry_at}
-use Rattle.cluster_rules.specs.Packets.{Packet}
-use Rattle.cluster_rules.specs.Nodes.{Effect, NodeState, Replica, done_of, has_state}
+use Rattle.gum_messages.specs.Messages.{Sent}
+use Rattle.cluster_rules.specs.declared.effect.Effect.{Effect}
+use Rattle.cluster_rules.specs.Nodes.{NodeState, Replica, done_of, has_state}
 use Rattle.cluster_rules.specs.Joins.{shows}
 use Rattle.cluster_rules.specs.Worlds.{World, acked, sent}
 use Rattle.cluster_laws.proofs.Inv.{AckOk, Has, Invariant, MemberOk, NodeOk, Owner, OwnerOk, Pooled, Stands, at_head, waits}
@@ -180,7 +181,7 @@ module _ {M : Machine} where
 
   pub ready_keeps : (w : World M) (n : ℕ) (x : NodeState M) (s : Replica M) (last : Option Entry) (out : Option M.Outcome) (es : NodeState M → List Effect) → Invariant w → w.nodes n ≡ Some x → Readies w n x s last out
       → (y : NodeState M) → y ≡ readied x s last out
-      → (NodeOk (moved w n (readied x s last out) (es (readied x s last out))) n (readied x s last out) → (k : ℕ) (p : Packet) → slice_get (sent (es (readied x s last out))) k ≡ Some p → Pooled (moved w n (readied x s last out) (es (readied x s last out))) p) → acked (es (readied x s last out)) ≡ []
+      → (NodeOk (moved w n (readied x s last out) (es (readied x s last out))) n (readied x s last out) → (k : ℕ) (p : Sent) → slice_get (sent (es (readied x s last out))) k ≡ Some p → Pooled (moved w n (readied x s last out) (es (readied x s last out))) p) → acked (es (readied x s last out)) ≡ []
       → (Owner (moved w n (readied x s last out) (es (readied x s last out))) n (readied x s last out) → OwnerOk (moved w n (readied x s last out) (es (readied x s last out))) n (readied x s last out))
       → Invariant (moved w n y (es y))
   ready_keeps w n x s last out es j at k y eq ms na ow =

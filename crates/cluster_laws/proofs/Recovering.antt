@@ -12,7 +12,7 @@ use Rattle.view_reconcile.specs.Joining.{ReconcileState}
 use Rattle.view_reconcile.specs.Joining as joining
 use Rattle.view_reconcile.specs.Chains.{view_in}
 use Rattle.cluster_rules.specs.Machines.{Machine}
-use Rattle.cluster_rules.specs.Packets.{Packet}
+use Rattle.gum_messages.specs.Messages.{Sent}
 use Rattle.cluster_rules.specs.Nodes.{NodeState, done_of, nothing}
 use Rattle.cluster_rules.specs.Joins.{entered, takes_view}
 use Rattle.cluster_rules.specs.Worlds.{Log, World, absorb, claimed, found_log, put, with_log}
@@ -83,7 +83,7 @@ module _ {M : Machine} where
           pulling = λ o e. absurd (cc);
           finished = λ q p b. let f = h.finished q p b in (f.0, f.1, f.2, f.3, f.4, f.5, omega (arith, f.6));
         });
-        messages = none_told (λ (p : Packet). Pooled (moved w n y []) p);
+        messages = none_told (λ (p : Sent). Pooled (moved w n y []) p);
         acks = none_acked (λ (a b : ℕ). AckOk (moved w n y []) a b);
         points = quiet_points w n y [] refl;
         owner = λ o. absurd (let c : joining.is_ready y.join ≡ true = o.ready in cc);

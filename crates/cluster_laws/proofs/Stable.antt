@@ -10,7 +10,9 @@ use Rattle.update_records.specs.Entry.{Entry}
 use Rattle.update_records.specs.declared.update.Update.{Update}
 use Rattle.view_reconcile.specs.Chains.{view_in}
 use Rattle.cluster_rules.specs.Machines.{Machine, registry_at}
-use Rattle.cluster_rules.specs.Packets.{Body, Packet, Ask, Granted, Apply, Applied, Release, Offer, Need, Piece, Ready, OpenView}
+use Rattle.gum_messages.specs.declared.body.Body.{Body}
+use Rattle.gum_messages.specs.declared.body.Body.TheVariants.{Ask, Granted, Apply, Applied, Release, Offer, Need, Piece, Ready, OpenView}
+use Rattle.gum_messages.specs.Messages.{Sent}
 use Rattle.cluster_rules.specs.Nodes.{NodeState, done_of}
 use Rattle.cluster_rules.specs.Worlds.{Log, World}
 use Rattle.cluster_laws.proofs.Inv.{AllReached, Asked, Clear, Entered, Finished, LoggedIn, MsgOk, NotBefore, Past, Pooled, Reached, Requested, Stands, WasReady, greatest_asked, state_bytes, waits}
@@ -174,5 +176,5 @@ module _ {M : Machine} where
   message_ok w w' v from to Ready e a b h = was_ready w w' from (inc_of v.members from) v.number e a h
   message_ok w w' v from to OpenView e a b h = λ n p. was_ready w w' n (inc_of v.members n) v.number e a (h n p)
 
-  pub pooled : (w w' : World M) (p : Packet) → Ext w w' → AskedOnly w → ((v c : ℕ) → w.log.count v ≡ Some c → c ≤ length w.log.order) → Pooled w p → Pooled w' p
+  pub pooled : (w w' : World M) (p : Sent) → Ext w w' → AskedOnly w → ((v c : ℕ) → w.log.count v ≡ Some c → c ≤ length w.log.order) → Pooled w p → Pooled w' p
   pooled w w' p e a b h = record { view = h.view; declared = e.chain p.view h.view h.declared; number = h.number; ok = message_ok w w' h.view p.from p.to p.body e a (b h.view.number) h.ok }

@@ -6,6 +6,7 @@ use Rattle.update_records.specs.Entry.{Entry}
 use Rattle.view_reconcile.specs.Joining.{ReconcileState}
 use Rattle.view_reconcile.specs.Joining as joining
 use Rattle.view_reconcile.specs.Chains.{view_in}
+use Rattle.cluster_rules.specs.declared.effect.HaltCause.TheVariants as halt
 use Rattle.cluster_rules.specs.Machines.{Machine}
 use Rattle.cluster_rules.specs.Nodes.{NodeState, Replica, done_of, halts}
 use Rattle.cluster_rules.specs.Worlds.{World, absorb, put, stopped, with_log}
@@ -168,10 +169,10 @@ module _ {M : Machine} where
   })
 
   -- a node that halts tells nothing that is sent
-  pub halt_same : (w : World M) (n : ℕ) → absorb n halts w ≡ stopped n w
+  pub halt_same : (w : World M) (n : ℕ) → absorb n (halts halt.Disk) w ≡ stopped n w
   halt_same w n = λ i. record w { nodes = put w.nodes n None; pool = append-nil w.pool i; acks = append-nil w.acks i; points = append-nil w.points i }
 
-  pub halt_keeps : (w : World M) (n : ℕ) → Invariant (stopped n w) → Invariant (absorb n halts w)
+  pub halt_keeps : (w : World M) (n : ℕ) → Invariant (stopped n w) → Invariant (absorb n (halts halt.Disk) w)
   halt_keeps w n j = subst (λ (v : World M). Invariant v) (sym (halt_same w n)) j
 
   -- a failed append, or a death inside one: the locker stops, and its record may be in the log

@@ -10,7 +10,9 @@ use Rattle.view_reconcile.specs.Joining.{ReconcileState}
 use Rattle.view_reconcile.specs.Joining as joining
 use Rattle.view_reconcile.specs.Chains.{view_in}
 use Rattle.cluster_rules.specs.Machines.{Machine, IsMachine}
-use Rattle.cluster_rules.specs.Packets.{Body, Packet, Ask, Granted, Apply, Applied, Release, Offer, Need, Piece, Ready, OpenView}
+use Rattle.gum_messages.specs.declared.body.Body.{Body}
+use Rattle.gum_messages.specs.declared.body.Body.TheVariants.{Ask, Granted, Apply, Applied, Release, Offer, Need, Piece, Ready, OpenView}
+use Rattle.gum_messages.specs.Messages.{Sent}
 use Rattle.cluster_rules.specs.Nodes.{NodeState, done_of, fresh, members_of, nothing, number_of}
 use Rattle.cluster_rules.specs.Updates.{Answer, Logged, may_submit, submit}
 use Rattle.cluster_rules.specs.Receiving.{checkpoint, clock, receive, tick}
@@ -64,7 +66,7 @@ module _ {M : Machine} where
   hears_dies w n x from OpenView answer j at pos ok = stop_keeps w n j
 
   -- a message that counts is one of the node's own view
-  pub counted_ok : (w : World M) (n : ℕ) (x : NodeState M) (p : Packet) → Invariant w → w.nodes n ≡ Some x → Pooled w p → p.to ≡ n → receiving.counts x p ≡ true → (0 < inc_of x.join.view.members p.from) × (x.join.view.number ≢ 0) × MsgOk w x.join.view p.from n p.body
+  pub counted_ok : (w : World M) (n : ℕ) (x : NodeState M) (p : Sent) → Invariant w → w.nodes n ≡ Some x → Pooled w p → p.to ≡ n → receiving.counts x p ≡ true → (0 < inc_of x.join.view.members p.from) × (x.join.view.number ≢ 0) × MsgOk w x.join.view p.from n p.body
   counted_ok w n x p j at po to g =
       let h : NodeOk w n x = j.nodes n x at in
       let a = and_true (nat_eq p.view (number_of x)) (nat_lt 0 (inc_of (members_of x) p.from)) g in
@@ -76,13 +78,13 @@ module _ {M : Machine} where
       let ok : MsgOk w x.join.view p.from p.to p.body = subst (λ (v : View). MsgOk w v p.from p.to p.body) same po.ok in
       (pos, nz, subst (λ (t : ℕ). MsgOk w x.join.view p.from t p.body) to ok)
 
-  pub receive_keeps : IsMachine M → (w : World M) (n : ℕ) (x : NodeState M) (p : Packet) (answer : Answer) → Invariant w → Lockers w → w.nodes n ≡ Some x → Pooled w p → p.to ≡ n → Keeps w n x (receive x p w.log.held answer)
+  pub receive_keeps : IsMachine M → (w : World M) (n : ℕ) (x : NodeState M) (p : Sent) (answer : Answer) → Invariant w → Lockers w → w.nodes n ≡ Some x → Pooled w p → p.to ≡ n → Keeps w n x (receive x p w.log.held answer)
   receive_keeps law w n x p answer j lo at po to =
       if_cases (λ (d : Logged M). Keeps w n x d) (receiving.counts x p) _ _
       (λ g. let c = counted_ok w n x p j at po to g in hears_keeps law w n x p.from p.body answer j at c.0 c.1 (λ l. lo n x at l c.1) c.2)
       (λ g. stay_keeps w n x j at)
 
-  pub receive_dies : (w : World M) (n : ℕ) (x : NodeState M) (p : Packet) (answer : Answer) → Invariant w → w.nodes n ≡ Some x → Pooled w p → p.to ≡ n → Dies w n x (receive x p w.log.held answer)
+  pub receive_dies : (w : World M) (n : ℕ) (x : NodeState M) (p : Sent) (answer : Answer) → Invariant w → w.nodes n ≡ Some x → Pooled w p → p.to ≡ n → Dies w n x (receive x p w.log.held answer)
   receive_dies w n x p answer j at po to =
       if_cases (λ (d : Logged M). Dies w n x d) (receiving.counts x p) _ _
       (λ g. let c = counted_ok w n x p j at po to g in hears_dies w n x p.from p.body answer j at c.0 c.2)
@@ -182,7 +184,7 @@ module _ (M : Machine) where
     };
     nodes = λ n x e. absurd (cc);
     owner = λ n x o. absurd (let e : ◌≡◌ {A = Option (NodeState M)} None (Some x) = o.runs in cc);
-    pool = λ k p e. none_told (λ (p : Packet). Pooled (opening M cap) p) k p e;
+    pool = λ k p e. none_told (λ (p : Sent). Pooled (opening M cap) p) k p e;
     acks = λ a v k e. none_acked (λ (v k : ℕ). AckOk (opening M cap) v k) a v k e;
     points = λ a p e. absurd (cc);
     steady = λ a b p q e. absurd (cc);

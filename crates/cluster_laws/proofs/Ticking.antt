@@ -13,9 +13,14 @@ use Rattle.view_reconcile.specs.declared.step.Step.{Step}
 use Rattle.view_reconcile.specs.declared.step.Step.TheVariants as step
 use Rattle.view_reconcile.specs.Joining.{ReconcileState}
 use Rattle.view_reconcile.specs.Joining as joining
+use Rattle.cluster_rules.specs.declared.effect.HaltCause.TheVariants as halt
 use Rattle.cluster_rules.specs.Machines.{Machine, IsMachine}
-use Rattle.cluster_rules.specs.Packets.{Body, Packet, Granted, Apply, Offer, Need, Ready}
-use Rattle.cluster_rules.specs.Nodes.{Effect, NodeState, Out, Replica, Send, done_of, halts, has_state, locker_at, members_of, nothing, number_of, packet}
+use Rattle.gum_messages.specs.declared.body.Body.{Body}
+use Rattle.gum_messages.specs.declared.body.Body.TheVariants.{Granted, Apply, Offer, Need, Ready}
+use Rattle.gum_messages.specs.Messages.{Sent}
+use Rattle.cluster_rules.specs.declared.effect.Effect.{Effect}
+use Rattle.cluster_rules.specs.declared.effect.Effect.TheVariants.{Send}
+use Rattle.cluster_rules.specs.Nodes.{NodeState, Out, Replica, done_of, halts, has_state, locker_at, members_of, nothing, number_of, packet}
 use Rattle.cluster_rules.specs.Updates.{tick_head, tick_lock}
 use Rattle.cluster_rules.specs.Joins.{offer_each, offered_cap, tick_join}
 use Rattle.cluster_rules.specs.Receiving.{checkpoint, clock, tick}
@@ -35,23 +40,23 @@ use Rattle.cluster_laws.proofs.Asking.{granted_ok}
 use Rattle.cluster_laws.proofs.Stopping.{halt_keeps, stop_keeps}
 
 -- messages and no acknowledgements, in two parts
-pub record Tells (P : Packet → Type 0) (es : List Effect) : Type 0 where
+pub record Tells (P : Sent → Type 0) (es : List Effect) : Type 0 where
   pub quiet : acked es ≡ []
-  pub each : (k : ℕ) (p : Packet) → slice_get (sent es) k ≡ Some p → P p
+  pub each : (k : ℕ) (p : Sent) → slice_get (sent es) k ≡ Some p → P p
 
-pub tells_none : (P : Packet → Type 0) → Tells P []
+pub tells_none : (P : Sent → Type 0) → Tells P []
 tells_none P = record { quiet = refl; each = none_told P }
 
-pub tells_one : (P : Packet → Type 0) (p : Packet) → P p → Tells P (Send p ∷ [])
+pub tells_one : (P : Sent → Type 0) (p : Sent) → P p → Tells P (Send p ∷ [])
 tells_one P p h = record { quiet = refl; each = one_told P p h }
 
-pub tells_both : (P : Packet → Type 0) (a b : List Effect) → Tells P a → Tells P b → Tells P (a ++ b)
+pub tells_both : (P : Sent → Type 0) (a b : List Effect) → Tells P a → Tells P b → Tells P (a ++ b)
 tells_both P a b h g = record {
   quiet = acked_append a b ∙ (λ i. h.quiet i ++ g.quiet i);
   each = λ k p e. ⊎_elim
       (λ (c : slice_get (sent a) k ≡ Some p). h.each k p c)
       (λ (c : (j : ℕ) × (slice_get (sent b) j ≡ Some p)). g.each c.0 p c.1)
-      (slice_get_append (sent a) (sent b) k p (ap (λ (l : List Packet). slice_get l k) (sym (sent_append a b)) ∙ e));
+      (slice_get_append (sent a) (sent b) k p (ap (λ (l : List Sent). slice_get l k) (sym (sent_append a b)) ∙ e));
 }
 
 module _ {M : Machine} where
@@ -61,7 +66,7 @@ module _ {M : Machine} where
       let e : M.cap s.0.registry ≡ w.log.cap = ap M.cap (h.registry s.0 s.1) ∙ replay_cap law (take s.0.done w.log.order) (M.empty w.log.cap) ∙ law.begins w.log.cap in
       ap (λ (r : Option (Replica M)). elim r [ None ↦ 0 | Some r ↦ M.cap r.registry ]) s.1 ∙ e
 
-  pub offers_told : (P : Packet → Type 0) (x : NodeState M) (b : Body) (ms : List Member) → ((to : ℕ) → joining.waits_for x.join to ≡ true → P (packet x to b)) → Tells P (offer_each x b ms)
+  pub offers_told : (P : Sent → Type 0) (x : NodeState M) (b : Body) (ms : List Member) → ((to : ℕ) → joining.waits_for x.join to ≡ true → P (packet x to b)) → Tells P (offer_each x b ms)
   offers_told P x b [] h = tells_none P
   offers_told P x b (m ∷ ms) h =
       let rest : Tells P (offer_each x b ms) = offers_told P x b ms h in
@@ -69,10 +74,10 @@ module _ {M : Machine} where
       (λ e. tells_both P (Send (packet x m.node b) ∷ []) (offer_each x b ms) (tells_one P (packet x m.node b) (h m.node e)) rest)
       (λ e. rest)
 
-  pub head_told : (w : World M) (n : ℕ) (x : NodeState M) (es : List Effect) → Invariant w → w.nodes n ≡ Some x → Tells (λ (p : Packet). Pooled (moved w n x es) p) (tick_head x (updating.ticked x.core))
+  pub head_told : (w : World M) (n : ℕ) (x : NodeState M) (es : List Effect) → Invariant w → w.nodes n ≡ Some x → Tells (λ (p : Sent). Pooled (moved w n x es) p) (tick_head x (updating.ticked x.core))
   head_told w n x es j at =
       let h : NodeOk w n x = j.nodes n x at in
-      let P : Packet → Type 0 = λ p. Pooled (moved w n x es) p in
+      let P : Sent → Type 0 = λ p. Pooled (moved w n x es) p in
       ticked_cases (λ (d : Decision). Tells P (tick_head x d)) x.core
       (tells_none P)
       (λ op some none.
@@ -93,19 +98,19 @@ module _ {M : Machine} where
       let same : t.0 ≡ e = cc in
       tells_one P (packet x to (Apply e)) (told w n x x es to (Apply e) h (h.ready_view (open_is_ready x.join t.3)) refl refl (subst (λ (a : Entry). LoggedIn w.log a x.join.view.number) same (record { at = t.4.at; view = t.4.view })))))
 
-  pub lock_told : (w : World M) (n : ℕ) (x : NodeState M) (es : List Effect) → Invariant w → w.nodes n ≡ Some x → Tells (λ (p : Packet). Pooled (moved w n x es) p) (tick_lock x)
+  pub lock_told : (w : World M) (n : ℕ) (x : NodeState M) (es : List Effect) → Invariant w → w.nodes n ≡ Some x → Tells (λ (p : Sent). Pooled (moved w n x es) p) (tick_lock x)
   lock_told w n x es j at =
-      let P : Packet → Type 0 = λ p. Pooled (moved w n x es) p in
+      let P : Sent → Type 0 = λ p. Pooled (moved w n x es) p in
       option_cases (λ (l : List Effect). Tells P l) x.core.lock [] (λ l. elim x.last [ None ↦ [] | Some e ↦ Send (packet x l.node (Granted e)) ∷ [] ])
       (λ none. tells_none P)
       (λ l lk. option_cases (λ (t : List Effect). Tells P t) x.last [] (λ e. Send (packet x l.node (Granted e)) ∷ [])
       (λ none. tells_none P)
       (λ e la. tells_one P (packet x l.node (Granted e)) (granted_ok w n x l e es j at lk la)))
 
-  pub join_told : IsMachine M → (w : World M) (n : ℕ) (x : NodeState M) (es : List Effect) → Invariant w → w.nodes n ≡ Some x → (joining.locks x.join ≡ true → x.join.view.number ≢ 0 → joining.is_ready x.join ≡ true) → Tells (λ (p : Packet). Pooled (moved w n x es) p) (tick_join x (joining.ticked x.join))
+  pub join_told : IsMachine M → (w : World M) (n : ℕ) (x : NodeState M) (es : List Effect) → Invariant w → w.nodes n ≡ Some x → (joining.locks x.join ≡ true → x.join.view.number ≢ 0 → joining.is_ready x.join ≡ true) → Tells (λ (p : Sent). Pooled (moved w n x es) p) (tick_join x (joining.ticked x.join))
   join_told law w n x es j at lr =
       let h : NodeOk w n x = j.nodes n x at in
-      let P : Packet → Type 0 = λ p. Pooled (moved w n x es) p in
+      let P : Sent → Type 0 = λ p. Pooled (moved w n x es) p in
       let Q : Step → Type 0 = λ s. Tells P (tick_join x s) in
       if_cases Q (joining.locks x.join) _ _
       (λ lk. if_cases Q (nat_lt 0 (joining.awaited x.join)) _ _
@@ -134,7 +139,7 @@ module _ {M : Machine} where
   pub tick_keeps : IsMachine M → (w : World M) (n : ℕ) (x : NodeState M) → Invariant w → w.nodes n ≡ Some x → (joining.locks x.join ≡ true → x.join.view.number ≢ 0 → joining.is_ready x.join ≡ true) → Invariant (absorb n (tick x) w)
   tick_keeps law w n x j at lr =
       let es : List Effect = (tick x).effects in
-      let P : Packet → Type 0 = λ p. Pooled (moved w n x es) p in
+      let P : Sent → Type 0 = λ p. Pooled (moved w n x es) p in
       let t : Tells P es = tells_both P (tick_head x (updating.ticked x.core)) (tick_lock x ++ tick_join x (joining.ticked x.join)) (head_told w n x es j at) (tells_both P (tick_lock x) (tick_join x (joining.ticked x.join)) (lock_told w n x es j at) (join_told law w n x es j at lr)) in
       stay_tells w n x es j at t.quiet t.each
 
@@ -185,7 +190,7 @@ module _ {M : Machine} where
           all_requests = h.all_requests;
           finished = h.finished;
         });
-        messages = none_told (λ (p : Packet). Pooled (moved w n y []) p);
+        messages = none_told (λ (p : Sent). Pooled (moved w n y []) p);
         acks = none_acked (λ (a b : ℕ). AckOk (moved w n y []) a b);
         points = quiet_points w n y [] refl;
         owner = owner_moves w n x y [] j at (record { ready = refl; open_ = refl; node = refl; view = refl; lock = refl; members = refl; greatest = refl; done = refl }) (λ o k op i. let old : MemberOk w.log x.core.lock n x = k.members op n x at i in record { near = old.near; free = old.free; heads = old.heads });
@@ -195,7 +200,7 @@ module _ {M : Machine} where
   pub checkpoint_keeps : (w : World M) (n : ℕ) (x : NodeState M) (good : Bool) → Invariant w → w.nodes n ≡ Some x → Invariant (absorb n (checkpoint x w.log.held good) w)
   checkpoint_keeps w n x good j at =
       let P : Out M → Type 0 = λ o. Invariant (absorb n o w) in
-      let dies : P halts = halt_keeps w n (stop_keeps w n j) in
+      let dies : P (halts halt.Disk) = halt_keeps w n (stop_keeps w n j) in
       if_cases P (x.core.is_open && updating.locks x.core) _ _
       (λ g. if_cases P (nat_lt (number_of x) w.log.held) _ _ (λ f. dies) (λ f. if_cases P good _ _ (λ b. stay_keeps w n x j at) (λ b. dies)))
       (λ g. stay_keeps w n x j at)
@@ -236,7 +241,7 @@ module _ {M : Machine} where
       j at (record {
         grown = gr;
         node = node_on w w.requests ps n (nothing x) n x ex (λ r s. (j.log.asked r s).1) refl h;
-        messages = none_told (λ (p : Packet). Pooled (moved (with_history w w.requests ps) n x []) p);
+        messages = none_told (λ (p : Sent). Pooled (moved (with_history w w.requests ps) n x []) p);
         acks = none_acked (λ (a b : ℕ). AckOk (moved (with_history w w.requests ps) n x []) a b);
         points = quiet_points w n x [] refl;
         owner = λ o.

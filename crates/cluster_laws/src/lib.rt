@@ -3,9 +3,10 @@
 //! and their proof stand in `proofs/`.
 #![tactic(auto)]
 
-ghost use Rattle.std.specs.Prelude.{ℕ, List};
+ghost use Rattle.std.specs.Prelude.{◌≡◌, ◌++◌, ℕ, List};
 ghost use Rattle.cluster_rules.specs.Machines.{Machine, IsMachine};
 ghost use Rattle.cluster_rules.specs.Promises.{Kept, Safe, Steady};
+ghost use Rattle.update_records.specs.Entry.{Entry};
 ghost use Rattle.cluster_rules.specs.Worlds.{Event, opening, run};
 
 /// What can be replicated: a deterministic state machine that reads back from its bytes.
@@ -31,4 +32,9 @@ pub fn kept<R: Replicated>()
 /// places of its acknowledged updates, nor the one behind the other.
 pub fn steady<R: Replicated>()
     ensures { (cap : ℕ) (events : List Event) → Steady (run events (opening R.machine cap)) }
+{}
+
+/// The order only grows.
+pub fn grows<R: Replicated>()
+    ensures { (cap : ℕ) (es more : List Event) → (rest : List Entry) × ((run (es ++ more) (opening R.machine cap)).log.order ≡ (run es (opening R.machine cap)).log.order ++ rest) }
 {}

@@ -11,8 +11,12 @@ use Rattle.view_reconcile.specs.declared.step.Step.TheVariants as step
 use Rattle.view_reconcile.specs.Joining.{ReconcileState}
 use Rattle.view_reconcile.specs.Joining as joining
 use Rattle.cluster_rules.specs.Machines.{Machine, registry_at}
-use Rattle.cluster_rules.specs.Packets.{Body, Need, Offer, OpenView, Piece, Ready}
-use Rattle.cluster_rules.specs.Nodes.{Effect, NodeState, Offering, Opened, Out, Send, after, becomes, done_of, is_head, locker_at, members_of, nothing, number_of, packet, place_of, tells, to_each}
+use Rattle.gum_messages.specs.declared.body.Body.{Body}
+use Rattle.gum_messages.specs.declared.body.Body.TheVariants.{Need, Offer, OpenView, Piece, Ready}
+use Rattle.cluster_rules.specs.declared.effect.Effect.{Effect}
+use Rattle.cluster_rules.specs.declared.effect.Effect.TheVariants.{Opened, Send}
+use Rattle.cluster_rules.specs.declared.offering.Offering.{Offering}
+use Rattle.cluster_rules.specs.Nodes.{NodeState, Out, after, becomes, done_of, is_head, locker_at, members_of, nothing, number_of, packet, place_of, tells, to_each}
 use Rattle.cluster_rules.specs.Updates.{applied, begins, opens}
 
 -- A view of a greater number, of which this incarnation is a member, is taken.
@@ -141,9 +145,11 @@ hears_itself x o registry r = elim (r.1) [
   | s ↦ goes_on (joined x o.count o.last r.0) o s
 ]
 
+abbrev pub recovers_from : {M : Machine} → NodeState M → Offering → M.Registry → Out M
+recovers_from {M} x o registry = hears_itself x o registry (joining.offered x.join o.count (place_of o.last) (done_within x o.cap))
+
 abbrev pub recovers : {M : Machine} → NodeState M → ℕ → List Entry → Out M
-recovers {M} x cap order =
-    hears_itself x (record { count = length order; cap = cap; last = last_of order }) (registry_at M cap order (length order)) (joining.offered x.join (length order) (place_of (last_of order)) (done_within x cap))
+recovers {M} x cap order = recovers_from x (record { count = length order; cap = cap; last = last_of order }) (registry_at M cap order (length order))
 
 -- A tick: who isn't ready is offered the log again, a pulling member asks again, a ready one says so again.
 abbrev pub offer_each : {M : Machine} → NodeState M → Body → List Member → List Effect

@@ -1,5 +1,4 @@
 pub mod Machines
-pub mod Packets
 pub mod Nodes
 pub mod Updates
 pub mod Joins

@@ -8,18 +8,18 @@ use Rattle.gum_core.specs.Updating as updating
 use Rattle.view_reconcile.specs.Joining.{ReconcileState}
 use Rattle.view_reconcile.specs.Joining as joining
 use Rattle.cluster_rules.specs.Machines.{Machine}
-use Rattle.cluster_rules.specs.Packets.{Body, Packet, Ask}
+use Rattle.gum_messages.specs.declared.body.Body.{Body}
+use Rattle.gum_messages.specs.declared.body.Body.TheVariants.{Ask}
+use Rattle.gum_messages.specs.Messages.{Sent}
+use Rattle.cluster_rules.specs.declared.effect.Effect.{Effect}
+use Rattle.cluster_rules.specs.declared.effect.Effect.TheVariants.{Acked, Halted, Opened, Send}
+use Rattle.cluster_rules.specs.declared.effect.HaltCause.{HaltCause}
+use Rattle.cluster_rules.specs.declared.offering.Offering.{Offering}
 
 -- A registry, and how many records of the order it has applied.
 pub record Replica (M : Machine) : Type 0 where
   pub registry : M.Registry
   pub done : ℕ
-
--- What a locker offers: how many records its log has, its capacity, and the last record.
-pub record Offering : Type 0 where
-  pub count : ℕ
-  pub cap : ℕ
-  pub last : Option Entry
 
 pub record NodeState (M : Machine) : Type 0 where
   -- The stamp of the records that it logs.
@@ -76,29 +76,26 @@ place_of last = elim last [ None ↦ None | Some e ↦ Some e.place ]
 abbrev pub is_head : {M : Machine} → Entry → NodeState M → Bool
 is_head e x = nat_lt 0 (length x.core.queue) && (nat_eq e.id.node x.join.node && (nat_eq e.id.inc x.join.inc && nat_eq e.id.req (x.core.passed + 1)))
 
--- What a node does.
-pub data Effect : Type 0 where
-  Send : (packet : Packet) → Effect
-  -- The head's update is acknowledged: in this view, with the place of its record.
-  Acked : (view place : ℕ) → Effect
-  Opened : (view : ℕ) → Effect
-  Halted : Effect
-
--- The node after an event, or none where it stopped, and what it did.
+-- The node after an event, or none where it stopped, what it did, and what came of the head that it acknowledged.
 pub record Out (M : Machine) : Type 0 where
   pub node : Option (NodeState M)
   pub effects : List Effect
+  pub outcome : Option M.Outcome
 
 abbrev pub becomes : {M : Machine} → NodeState M → List Effect → Out M
-becomes x effects = record { node = Some x; effects = effects }
+becomes x effects = record { node = Some x; effects = effects; outcome = None }
 
 abbrev pub nothing : {M : Machine} → NodeState M → Out M
 nothing x = becomes x []
 
-abbrev pub halts : {M : Machine} → Out M
-halts = record { node = None; effects = Halted ∷ [] }
+abbrev pub halts : {M : Machine} → HaltCause → Out M
+halts cause = record { node = None; effects = Halted cause ∷ []; outcome = None }
 
-abbrev pub packet : {M : Machine} → NodeState M → ℕ → Body → Packet
+-- The head was acknowledged, and came to this.
+abbrev pub acknowledges : {M : Machine} → NodeState M → Option M.Outcome → List Effect → Out M
+acknowledges x outcome effects = record { node = Some x; effects = effects; outcome = outcome }
+
+abbrev pub packet : {M : Machine} → NodeState M → ℕ → Body → Sent
 packet x to body = record { view = x.join.view.number; from = x.join.node; to = to; body = body }
 
 abbrev pub tells : {M : Machine} → NodeState M → ℕ → Body → Out M
@@ -109,7 +106,7 @@ to_each x body [] = []
 to_each x body (m ∷ ms) = Send (packet x m.node body) ∷ to_each x body ms
 
 abbrev pub after : {M : Machine} → List Effect → Out M → Out M
-after effects o = record { node = o.node; effects = effects ++ o.effects }
+after effects o = record { node = o.node; effects = effects ++ o.effects; outcome = o.outcome }
 
 -- The locker is asked for the head, under this request.
 abbrev pub asks : {M : Machine} → NodeState M → Option ℕ → List Effect

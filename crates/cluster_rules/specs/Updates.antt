@@ -9,8 +9,11 @@ use Rattle.gum_core.specs.Updating.{CoreState}
 use Rattle.gum_core.specs.Updating as updating
 use Rattle.view_reconcile.specs.Joining as joining
 use Rattle.cluster_rules.specs.Machines.{Machine}
-use Rattle.cluster_rules.specs.Packets.{Apply, Applied, Granted, Release}
-use Rattle.cluster_rules.specs.Nodes.{Acked, Effect, NodeState, Opened, Out, Replica, Send, after, asks, becomes, done_of, halts, is_head, locker_at, nothing, number_of, packet, tells}
+use Rattle.cluster_rules.specs.declared.effect.HaltCause.TheVariants as halt
+use Rattle.gum_messages.specs.declared.body.Body.TheVariants.{Apply, Applied, Granted, Release}
+use Rattle.cluster_rules.specs.declared.effect.Effect.{Effect}
+use Rattle.cluster_rules.specs.declared.effect.Effect.TheVariants.{Acked, Opened, Send}
+use Rattle.cluster_rules.specs.Nodes.{NodeState, Out, Replica, acknowledges, after, asks, becomes, done_of, halts, is_head, locker_at, nothing, number_of, packet, tells}
 
 -- A record is applied; what came of the head's is kept.
 abbrev pub replica_after : {M : Machine} → Entry → Option (Replica M) → Option (Replica M)
@@ -47,7 +50,7 @@ submit x update = if may_submit x then submits x (updating.submitted x.core upda
 abbrev pub begins : {M : Machine} → NodeState M → CoreState × Decision → Out M
 begins x r = elim (r.1) [
   | decision.Ask req ↦ becomes (record x { core = r.0 }) (asks (record x { core = r.0 }) (Some req))
-  | decision.Finish req place next ↦ becomes (without_head x r.0) (Acked (number_of x) place ∷ asks (without_head x r.0) next)
+  | decision.Finish req place next ↦ acknowledges (without_head x r.0) x.outcome (Acked (number_of x) place ∷ asks (without_head x r.0) next)
   | _ ↦ nothing (record x { core = r.0 })
 ]
 
@@ -87,11 +90,11 @@ has_logged x e = record (applied e x) { core = (updating.logged x.core e.id.node
 -- `held` is the fencing token that the disk holds.
 abbrev pub writes : {M : Machine} → NodeState M → Entry → ℕ → Answer → Logged M
 writes x e held answer =
-    if nat_lt (number_of x) held then unlogged halts
+    if nat_lt (number_of x) held then unlogged (halts (halt.Fenced held))
     else elim answer [
       | Written ↦ record { out = tells (has_logged x e) e.id.node (Granted e); appended = Some e; doubtful = None }
-      | InDoubt ↦ record { out = halts; appended = None; doubtful = Some e }
-      | Unwritten ↦ unlogged halts
+      | InDoubt ↦ record { out = halts halt.Disk; appended = None; doubtful = Some e }
+      | Unwritten ↦ unlogged (halts halt.Disk)
     ]
 
 abbrev pub grants : {M : Machine} → NodeState M → ℕ → Out M
@@ -111,7 +114,7 @@ on_ask x from req update held answer = answers x update held answer (updating.as
 abbrev pub proceeds : {M : Machine} → NodeState M → Entry → CoreState × Decision → Out M
 proceeds x e r = elim (r.1) [
   | decision.Spread to place ↦ tells (record x { core = r.0; spreads = Some e }) to (Apply e)
-  | decision.Finish req place next ↦ becomes (without_head x r.0) (Acked (number_of x) place ∷ Send (packet x (locker_at x) (Release req)) ∷ asks (without_head x r.0) next)
+  | decision.Finish req place next ↦ acknowledges (without_head x r.0) x.outcome (Acked (number_of x) place ∷ Send (packet x (locker_at x) (Release req)) ∷ asks (without_head x r.0) next)
   | decision.ReleaseAgain req ↦ tells x (locker_at x) (Release req)
   | _ ↦ nothing x
 ]

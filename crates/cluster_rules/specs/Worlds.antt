@@ -11,8 +11,12 @@ use Rattle.update_records.specs.declared.update.Update.{Update}
 use Rattle.view_reconcile.specs.Chains.{fault_of, view_in}
 use Rattle.view_reconcile.specs.Joining as joining
 use Rattle.cluster_rules.specs.Machines.{Machine}
-use Rattle.cluster_rules.specs.Packets.{Packet}
-use Rattle.cluster_rules.specs.Nodes.{Acked, Effect, NodeState, Out, Send, done_of, fresh, halts, nothing, number_of}
+use Rattle.cluster_rules.specs.declared.effect.HaltCause.{HaltCause}
+use Rattle.cluster_rules.specs.declared.effect.HaltCause.TheVariants as halt
+use Rattle.gum_messages.specs.Messages.{Sent}
+use Rattle.cluster_rules.specs.declared.effect.Effect.{Effect}
+use Rattle.cluster_rules.specs.declared.effect.Effect.TheVariants.{Acked, Send}
+use Rattle.cluster_rules.specs.Nodes.{NodeState, Out, done_of, fresh, halts, nothing, number_of}
 use Rattle.cluster_rules.specs.Updates.{Answer, Logged, may_submit, submit}
 use Rattle.cluster_rules.specs.Joins.{entered, recovers, takes_view}
 use Rattle.cluster_rules.specs.Receiving.{checkpoint, clock, receive, tick}
@@ -43,7 +47,7 @@ pub record World (M : Machine) : Type 0 where
   pub starts : ℕ → ℕ
   pub chain : List View
   -- All messages that were ever sent.
-  pub pool : List Packet
+  pub pool : List Sent
   -- All acknowledgements: view and place.
   pub acks : List (ℕ × ℕ)
   -- History, which no node reads: the updates that a node took in each of its incarnations; request q is the q-th.
@@ -72,7 +76,7 @@ pub data Opening : Type 0 where
   -- The log is recovered; the doubtful record, where there is one, was found in it or not.
   Recovered : (found : Bool) → Opening
   -- A call failed; the claim was raised before or not.
-  Refused : (raised : Bool) → Opening
+  Refused : (raised : Bool) → (cause : HaltCause) → Opening
 
 pub data Event : Type 0 where
   Start : (node : ℕ) → Event
@@ -94,7 +98,7 @@ pub data Event : Type 0 where
   -- It dies while it opens the log: the claim was raised before or not.
   DieInInstall : (node view : ℕ) → (raised : Bool) → Event
 
-abbrev pub sent : List Effect → List Packet
+abbrev pub sent : List Effect → List Sent
 sent [] = []
 sent (e ∷ es) = elim e [ Send p ↦ p ∷ sent es | _ ↦ sent es ]
 
@@ -148,7 +152,7 @@ raise raised view l = if raised then record l { held = view } else l
 abbrev pub logs : {M : Machine} → ℕ → Logged M → World M → World M
 logs view d w = with_log (leave d.doubtful view (append d.appended view w.log)) w
 
-abbrev pub deliver : {M : Machine} → World M → Packet → Answer → World M
+abbrev pub deliver : {M : Machine} → World M → Sent → Answer → World M
 deliver w p answer = elim (w.nodes p.to) [
   | None ↦ w
   | Some x ↦ absorb p.to (receive x p w.log.held answer).out (logs (number_of x) (receive x p w.log.held answer) w)
@@ -158,7 +162,7 @@ deliver w p answer = elim (w.nodes p.to) [
 abbrev pub written : {M : Machine} → Logged M → Option Entry
 written d = elim d.appended [ None ↦ d.doubtful | Some e ↦ Some e ]
 
-abbrev pub die_in_deliver : {M : Machine} → World M → Packet → Answer → World M
+abbrev pub die_in_deliver : {M : Machine} → World M → Sent → Answer → World M
 die_in_deliver w p answer = elim (w.nodes p.to) [
   | None ↦ w
   | Some x ↦ stopped p.to (with_log (leave (written (receive x p w.log.held answer)) (number_of x) w.log) w)
@@ -166,10 +170,10 @@ die_in_deliver w p answer = elim (w.nodes p.to) [
 
 abbrev pub recover : {M : Machine} → World M → ℕ → NodeState M → View → Opening → World M
 recover w n x v opening =
-    if nat_lt v.number w.log.held then absorb n halts w
+    if nat_lt v.number w.log.held then absorb n (halts (halt.Fenced w.log.held)) w
     else elim opening [
       | Recovered found ↦ absorb n (recovers (entered v x) w.log.cap (found_log found w.log).order) (with_log (claimed v.number (found_log found w.log)) w)
-      | Refused raised ↦ absorb n halts (with_log (raise raised v.number w.log) w)
+      | Refused raised cause ↦ absorb n (halts cause) (with_log (raise raised v.number w.log) w)
     ]
 
 abbrev pub install : {M : Machine} → World M → ℕ → NodeState M → View → Opening → World M
