@@ -2,8 +2,8 @@
 use Rattle.std.specs.Prelude.{◌≡◌, ℕ, ◌<◌, ◌≤◌, IsTrue, List, [], ◌∷◌, ◌++◌, codes, slice_index}
 use Rattle.std.specs.Fmt.{decimal}
 use Rattle.causes.specs.Counts.{Rose}
-use Rattle.wire_fields.specs.declared.endian.Endian.TheVariants.{Little}
-use Rattle.wire_fields.specs.Numbers.{num}
+use Rattle.registry_defs.specs.Keys.{root_alone}
+use Rattle.registry_defs.specs.Spelling.{registry_text}
 use Rattle.disk_core.specs.Images.{EachImage}
 use Rattle.disk_core.specs.Views.{DiskView, Passes}
 use Rattle.quorum_log.specs.Image.{Holds}
@@ -42,9 +42,9 @@ AsksFormat words cap = (words ≡ codes "format" ∷ decimal cap ∷ []) × IsCa
 abbrev pub AsksSomeFormat : List (List ℕ) → Type 0
 AsksSomeFormat words = (cap : ℕ) × AsksFormat words cap
 
--- The encoding of the empty registry: the creation number of its root, and how many values and subkeys it has.
+-- The state of a new log: the encoding of the empty registry.
 unfoldable pub empty_registry : List ℕ
-empty_registry = num Little 8 0 ++ (num Little 4 0 ++ num Little 4 0)
+empty_registry = registry_text root_alone
 
 -- How `format` ends, on a disk whose fencing token it makes 1.
 abbrev pub FormatEnds : DiskView → Status → DiskView → Type 0

@@ -14,15 +14,13 @@ use crate::serving::serve;
 use crate::showing::show_log;
 use crate::status::Status;
 use crate::words::{format_cap, is_session, is_showlog, serve_count};
+use clus_registry::EMPTY_STATE;
 use disk_core::{Disk, DiskFault};
 use edge_io::{Door, Failed, Sink, Source, write_whole};
 use quorum_log::format;
 use registry_server::Server;
 use rpc_calls::{Intake, Side};
 use std::alloc::{AllocError, Global};
-
-/// The state of a new log: the encoding of the empty registry.
-const EMPTY_REGISTRY: [u8; 16] = [0; 16];
 
 /// Runs the command that the words give (without the program's name), over any input, output, disk and
 /// door.
@@ -75,7 +73,7 @@ fn format_log<D: Disk>(disk: &mut D, cap: u32) -> Status
     requires disk_size { 34_209_856 ≤ (D.view disk.old).size }
     ensures { FormatRuns cap (D.view disk.old) result (D.view disk.new) }
 {
-    match format(disk, 1, cap, &EMPTY_REGISTRY) {
+    match format(disk, 1, cap, &EMPTY_STATE) {
         Ok(()) => Status::Done,
         Err(DiskFault::Failed) => Status::DiskFault,
         Err(DiskFault::Fenced { held }) => Status::Fenced { held },

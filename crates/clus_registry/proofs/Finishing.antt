@@ -18,7 +18,7 @@ use Rattle.registry_states.proofs.FoundStates.{state_found}
 use Rattle.registry_states.proofs.OnlyNodes.{spelled_is_read}
 use Rattle.clus_registry.specs.Builds.{Feeds, IsFed}
 use Rattle.clus_registry.specs.States.{FailsOn, GivesKeys, IsReadFrom}
-use Rattle.clus_registry.proofs.Seen.{contents, entries_are}
+use Rattle.registry_defs.proofs.Held.{contents, entries_are}
 
 -- ---- bytes at fault
 

@@ -1,11 +1,4 @@
-pub mod Maps
-pub mod Totals
-pub mod Trees
-pub mod Keeping
-pub mod Fields
-pub mod Bounds
 pub mod Seen
 pub mod Verdicts
-pub mod Steps
 pub mod Batches
 pub mod Finishing

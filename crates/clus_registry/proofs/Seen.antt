@@ -15,24 +15,13 @@ use Rattle.registry_defs.specs.Sections.{section, subkeys}
 use Rattle.registry_defs.specs.Sizes.{size}
 use Rattle.registry_defs.proofs.Orders.{rising_from_sorted}
 use Rattle.registry_defs.proofs.Sections.{section_rising, section_each, section_shorter}
-use Rattle.clus_registry.specs.Found.{IsAt}
+use Rattle.registry_defs.specs.Nodes.{IsAt}
 use Rattle.clus_registry.specs.Outcomes.{IsApplied}
 use Rattle.registry_defs.specs.Readings.{nth_subkey}
-use Rattle.clus_registry.proofs.Fields.{have_fields}
-use Rattle.clus_registry.proofs.Trees.{nothing_below}
-use Rattle.clus_registry.proofs.Keeping.{tree_of}
-
-abbrev pub contents : ℕ → Keys → Contents
-contents most es = record { cap = most; keys = from_sorted es }
-
-pub entries_are : (es : Keys) → IsRegistry es → entries (from_sorted {R = path_cmp} es) ≡ es
-entries_are es registry = entries-from_sorted path_cmp es (subst T (sym registry.rising) tt)
-
-pub keys_are : (now : Contents) (most : ℕ) (es : Keys) → contents most es ≡ now → IsRegistry es → keys_in now ≡ es
-keys_are now most es is registry = ap keys_in (sym is) ∙ entries_are es registry
-
-pub registry_in : (now : Contents) (most : ℕ) (es : Keys) → contents most es ≡ now → IsRegistry es → IsRegistry (keys_in now)
-registry_in now most es is registry = subst IsRegistry (sym (keys_are now most es is registry)) registry
+use Rattle.registry_defs.proofs.Held.{contents, entries_are}
+use Rattle.registry_defs.proofs.Fields.{have_fields}
+use Rattle.registry_defs.proofs.Trees.{nothing_below}
+use Rattle.registry_defs.proofs.Keeping.{tree_of}
 
 -- ---- what a change came to
 
@@ -74,17 +63,6 @@ rising_found (Some k) q es registry at = rising_at q es k.now registry at
 pub fields_found : (o : Option (Bor Node)) (q : List (List ℕ)) (es : Keys) → IsRegistry es → size es < 2 ^ 32 → MatchOption o (key_at q es ≡ None) (λ k. IsAt q es k.now) → IfSome o (λ k. HaveFields (keys_of k.now))
 fields_found None q es registry small at = tt
 fields_found (Some k) q es registry small at = fields_at q es k.now registry small at
-
--- ---- the empty registry
-
-root_values : AreValues []
-root_values = record { rising = refl; under_names = tt; limits = tt }
-
-root_key : IsKey [] new_root
-root_key = record { named = (refl, refl); under_name = tt; short = omega arith; written = omega arith; values = root_values }
-
-pub root_registry : IsRegistry root_alone
-root_registry = record { rising = refl; limits = (root_key, tt); root = refl; parents = (refl, tt) }
 
 -- what isn't there has no subkeys
 pub no_subkeys : (q : List (List ℕ)) (index : ℕ) (es : Keys) → IsRegistry es → key_at q es ≡ None → nth_subkey q index es ≡ None

@@ -9,10 +9,10 @@ use Rattle.registry_defs.specs.Sections.{section, has_subkeys}
 use Rattle.registry_defs.specs.Sizes.{size}
 use Rattle.registry_defs.specs.Changes.{at_key, without_value, created, key_deleted}
 use Rattle.registry_defs.specs.Applying.{Applied, answered, refused, done, is_born, if_born, if_fits, has_value, create_found, create_applied, delete_value_applied, delete_key_applied}
-use Rattle.registry_defs.specs.Nodes.{Node, keys_of, path_of}
+use Rattle.registry_defs.specs.Nodes.{Node, IsAt, keys_of, path_of}
 use Rattle.registry_defs.proofs.Paths.{folded-below}
 use Rattle.registry_defs.proofs.Sections.{key_in_section, section_in_section}
-use Rattle.clus_registry.specs.Found.{IsAt, IsBornAt}
+use Rattle.clus_registry.specs.Found.{IsBornAt}
 
 pub not_born : (birth : ℕ) (q : List (List ℕ)) (es : Keys) (a : Applied) → is_born birth (key_at q es) ≡ false → if_born birth (key_at q es) es a ≡ refused 1018 es
 not_born birth q es a none = ap (λ b. cond b a (refused 1018 es)) none

@@ -1,6 +1,7 @@
 -- What a state's build was fed, and what its calls give.
 use Rattle.std.specs.Prelude.{◌≡◌, ℕ, ◌≤◌, List, ◌++◌, Result, Ok, Err}
 use Rattle.wire_fields.specs.Numbers.{IsBytes}
+use Rattle.registry_defs.specs.Contents.{IsCap}
 use Rattle.registry_states.specs.Builds.{IsAtFault, IsSound, Kept}
 use Rattle.registry_states.specs.Builds as builds
 use Rattle.registry_states.specs.declared.fault.StateFault.{StateFault}
@@ -20,10 +21,9 @@ Feeds (Err Memory) now stream piece = IsFed now stream
 abbrev pub FeedIs : {T : Type 0} → Result T StateFault → Kept → Kept → List ℕ → Type 0
 FeedIs result old now piece = (stream : List ℕ) → IsFed old stream → Feeds result now stream piece
 
--- What is true of every build: its cap is in its range, and it was fed some stream.
+-- What is true of every build: its cap is one, and it was fed some stream.
 pub record IsBegun (cap : ℕ) (tree : Kept) : Type 0 where
-  pub least : 4096 ≤ cap
-  pub most : cap ≤ 16777216
+  pub range : IsCap cap
   pub same_cap : cap ≡ tree.cap
   pub stream : List ℕ
   pub fed : IsFed tree stream

@@ -1,14 +1,8 @@
 -- What is found in a registry.
-use Rattle.std.specs.Prelude.{◌≡◌, ℕ, List, true, Some}
+use Rattle.std.specs.Prelude.{◌≡◌, ℕ, List, true}
 use Rattle.registry_defs.specs.Keys.{ValueData, KeyData, Keys, key_at}
 use Rattle.registry_defs.specs.Applying.{is_born}
-use Rattle.registry_defs.specs.Nodes.{Node, keys_of}
-use Rattle.registry_defs.specs.Sections.{section}
-
--- The node is that of the key at the path, with all below it.
-pub record IsAt (path : List (List ℕ)) (keys : Keys) (node : Node) : Type 0 where
-  pub here : key_at path keys ≡ Some node.here
-  pub all : keys_of node ≡ section path keys
+use Rattle.registry_defs.specs.Nodes.{Node, IsAt}
 
 pub record IsBornAt (birth : ℕ) (path : List (List ℕ)) (keys : Keys) (node : Node) : Type 0 where
   pub at : IsAt path keys node

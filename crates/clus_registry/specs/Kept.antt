@@ -1,7 +1,7 @@
 -- What a registry's fields are to contracts, and what they keep.
 use Rattle.std.specs.Prelude.{◌≡◌, ◌≤◌}
 use Rattle.std.specs.FinMap.{from_sorted}
-use Rattle.registry_defs.specs.Contents.{Contents}
+use Rattle.registry_defs.specs.Contents.{Contents, IsCap}
 use Rattle.registry_defs.specs.Limits.{IsRegistry}
 use Rattle.registry_defs.specs.Nodes.{keys_of}
 use Rattle.registry_defs.specs.Sizes as sizes
@@ -14,5 +14,4 @@ pub record IsCounted (registry : Inside) : Type 0 where
   pub limits : IsRegistry (keys_of registry.root)
   pub counted : registry.size ≡ sizes.size (keys_of registry.root)
   pub fits : registry.size ≤ registry.cap
-  pub least : 4096 ≤ registry.cap
-  pub most : registry.cap ≤ 16777216
+  pub range : IsCap registry.cap

@@ -6,11 +6,13 @@
 
 mod applying;
 mod changing;
+mod empty;
 mod outcomes;
 mod reading;
 mod registry;
 mod state_build;
 
+pub use empty::{EMPTY_STATE, empty_state_is_of_the_root_alone};
 pub use registry::Registry;
 pub use registry_defs::{Info, Outcome};
 pub use registry_states::StateFault;

@@ -7,7 +7,8 @@ ghost use Rattle.registry_defs.specs.Limits.{IsRegistry, HaveFields};
 ghost use Rattle.registry_defs.specs.Nodes.{keys_of};
 ghost use Rattle.registry_defs.specs.Rising.{RisingKeys};
 ghost use Rattle.registry_defs.specs.Readings.{birth_at, value_in, nth_subkey, nth_value, info_at};
-ghost use Rattle.clus_registry.specs.Found.{IsAt, type_and_data, name_and_time, name_type_and_data};
+ghost use Rattle.registry_defs.specs.Nodes.{IsAt};
+ghost use Rattle.clus_registry.specs.Found.{type_and_data, name_and_time, name_type_and_data};
 
 use crate::registry::Registry;
 use clus_names::{Name, Path};

@@ -1,5 +1,5 @@
 ghost use Rattle.std.specs.Prelude.{◌≡◌, ◌+◌, ◌≤◌, drop, length, take, IfErr, IfOk};
-ghost use Rattle.registry_defs.specs.Contents.{keys_in};
+ghost use Rattle.registry_defs.specs.Contents.{IsCap, keys_in};
 ghost use Rattle.registry_defs.specs.Keys.{Keys, root_alone};
 ghost use Rattle.registry_defs.specs.Limits.{IsRegistry, HaveFields};
 ghost use Rattle.registry_defs.specs.Nodes.{keys_of};
@@ -41,8 +41,7 @@ impl Model for Registry {
 impl Registry {
     /// The empty registry: the root alone.
     pub fn new(alloc: Global, cap: u32) -> Result<Registry, AllocError>
-        requires least { 4096 ≤ cap }
-        requires most { cap ≤ 16777216 }
+        requires range { IsCap cap }
         ensures cap { IfOk result (λ registry. registry.cap ≡ cap) }
         ensures keys { IfOk result (λ registry. keys_in registry ≡ root_alone) }
     {
@@ -56,8 +55,7 @@ impl Registry {
 
     /// The registry that the bytes encode, all of the bytes.
     pub fn from_bytes(alloc: Global, bytes: &[u8], cap: u32) -> Result<Registry, StateFault>
-        requires least { 4096 ≤ cap }
-        requires most { cap ≤ 16777216 }
+        requires range { IsCap cap }
         // What is read is a registry within the cap, and is encoded so.
         ensures found { IfOk result (λ registry. IsReadFrom cap bytes.now registry) }
         // What is encoded so is read, unless memory runs out.
@@ -81,8 +79,7 @@ impl Registry {
 
     pub fn cap(&self) -> u32
         ensures exact { result ≡ self.now.cap }
-        ensures least { 4096 ≤ result }
-        ensures most { result ≤ 16777216 }
+        ensures range { IsCap result }
     {
         self.cap
     }
@@ -102,6 +99,8 @@ impl Registry {
     pub fn to_bytes(&self) -> Result<Vec<u8>, AllocError>
         ensures length { IfOk result (λ bytes. length bytes.items ≡ size (keys_in self.now)) }
         ensures encoding { IfOk result (λ bytes. bytes.items ≡ registry_text (keys_in self.now)) }
+        ensures limits { IsRegistry (keys_in self.now) }
+        ensures fits { size (keys_in self.now) ≤ self.now.cap }
     {
         let mut put = Put::new(self.alloc, Endian::Little);
         self.root().write(&mut put)?;
@@ -119,6 +118,8 @@ impl Registry {
     /// The root, with all that is written of it.
     fn root(&self) -> &Key
         ensures keys { keys_of result.now ≡ keys_in self.now }
+        ensures limits { IsRegistry (keys_in self.now) }
+        ensures fits { size (keys_in self.now) ≤ self.now.cap }
         ensures length { length (registry_text (keys_of result.now)) ≡ size (keys_in self.now) }
         ensures rising { RisingKeys (keys_of result.now) }
         ensures fields { HaveFields (keys_of result.now) }

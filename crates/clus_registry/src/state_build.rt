@@ -1,4 +1,5 @@
 ghost use Rattle.std.specs.Prelude.{◌≡◌, ◌≤◌, [], List, ℕ, length, IfErr, IfOk};
+ghost use Rattle.registry_defs.specs.Contents.{IsCap};
 ghost use Rattle.registry_defs.specs.Keys.{Keys};
 ghost use Rattle.registry_defs.specs.Limits.{IsRegistry};
 ghost use Rattle.registry_defs.specs.Sizes.{size};
@@ -34,8 +35,7 @@ impl Model for StateBuild {
 impl StateBuild {
     /// Takes no memory.
     pub fn new(alloc: Global, cap: u32) -> StateBuild
-        requires least { 4096 ≤ cap }
-        requires most { cap ≤ 16777216 }
+        requires range { IsCap cap }
         ensures cap { result.cap ≡ cap }
         ensures fed { IsFed result [] }
     {

@@ -1,6 +1,7 @@
 //! Which bytes are read as a registry, and which field of all others is at fault.
 
 ghost use Rattle.std.specs.Prelude.{◌<◌, ◌≤◌};
+ghost use Rattle.registry_defs.specs.Contents.{IsCap};
 
 use crate::{Registry, StateBuild, StateFault};
 use std::alloc::{AllocError, Global};
@@ -110,8 +111,7 @@ fn faults_in_pieces(
     cap: u32,
     count: usize,
 ) -> Result<[Option<usize>; 2], Fail>
-    requires least { 4096 ≤ cap }
-    requires most { cap ≤ 16777216 }
+    requires range { IsCap cap }
     requires some { 0 < count }
 {
     let mut build = StateBuild::new(alloc, cap);
@@ -128,8 +128,7 @@ fn faults_in_pieces(
 
 /// The same, where the whole bytes and pieces of 1 and 7 give one place.
 fn fault_in(alloc: Global, bytes: &[u8], cap: u32) -> Result<Option<usize>, Fail>
-    requires least { 4096 ≤ cap }
-    requires most { cap ≤ 16777216 }
+    requires range { IsCap cap }
 {
     let place = place_in(Registry::from_bytes(alloc, bytes, cap))?;
     let [_, by_one] = faults_in_pieces(alloc, bytes, cap, 1)?;

@@ -7,9 +7,8 @@ use Rattle.update_records.specs.Entry.{Entry}
 use Rattle.update_records.specs.Grammar.{record_of, first_record_of}
 use Rattle.update_records.proofs.RecordLaws.{whole_record_read, whole_first_read}
 use Rattle.registry_defs.specs.Contents.{Contents, keys_in}
-use Rattle.registry_defs.specs.Nodes.{keys_of}
-use Rattle.registry_defs.specs.StateGrammar.{state_of}
-use Rattle.registry_states.proofs.OnlyNodes.{spelled_is_read}
+use Rattle.registry_states.proofs.OneState.{HoldsKeys}
+use Rattle.registry_states.proofs.OneState.{one_state as keys_one}
 use Rattle.log_contents.specs.Contents.{IsEncodedFirst, IsRecordAt, AreRecords, IsState, IsLast}
 
 one_encoded : (first : Bool) (bytes : List ℕ) (a b : Entry) → IsEncodedFirst first bytes a → IsEncodedFirst first bytes b → a ≡ b
@@ -54,10 +53,7 @@ same_contents a b caps keys = λ i. record { cap = caps i; keys = keys i }
 
 pub one_state : (found : Found) (a b : Contents) → IsState found a → IsState found b → a ≡ b
 one_state found a b x y =
-    let read_a = spelled_is_read found.cap (keys_in a) x.most x.read.limits x.read.fits in
-    let read_b = spelled_is_read found.cap (keys_in b) y.most y.read.limits y.read.fits in
-    let as_a = ap (state_of found.cap) x.read.text ∙ read_a.2 in
-    let as_b = ap (state_of found.cap) y.read.text ∙ read_b.2 in
-    let root : read_a.0 ≡ read_b.0 = cc in
-    let keys : keys_in a ≡ keys_in b = sym read_a.1 ∙ ap keys_of root ∙ read_b.1 in
+    let held_a : HoldsKeys found.cap found.state (keys_in a) = record { limits = x.read.limits; fits = x.read.fits; text = x.read.text } in
+    let held_b : HoldsKeys found.cap found.state (keys_in b) = record { limits = y.read.limits; fits = y.read.fits; text = y.read.text } in
+    let keys = keys_one found.cap found.state (keys_in a) (keys_in b) x.range.1 held_a held_b in
     same_contents a b (x.read.same_cap ∙ sym y.read.same_cap) (same_entries_map a.keys b.keys keys)

@@ -1,9 +1,9 @@
 -- What a log that was found holds.
-use Rattle.std.specs.Prelude.{◌≡◌, ℕ, ◌+◌, ◌≤◌, List, [], ◌∷◌, Bool, true, false, ◌==◌, Option, Some, None}
+use Rattle.std.specs.Prelude.{◌≡◌, ℕ, ◌+◌, List, [], ◌∷◌, Bool, true, false, ◌==◌, Option, Some, None}
 use Rattle.quorum_log.specs.declared.found.Found.{Found}
 use Rattle.quorum_log.specs.declared.found.FoundRecord.{FoundRecord}
 use Rattle.update_records.specs.Entry.{Entry, IsRecord, IsFirst, record_text, first_text}
-use Rattle.registry_defs.specs.Contents.{Contents}
+use Rattle.registry_defs.specs.Contents.{Contents, IsCap}
 use Rattle.clus_registry.specs.States.{IsReadFrom}
 use Rattle.log_contents.specs.declared.contents.LogContents.{LogContents}
 
@@ -28,8 +28,7 @@ AreRecords version place stored entries = ⊥
 
 -- The state is the encoding of the registry, whose cap is that of the log.
 pub record IsState (found : Found) (registry : Contents) : Type 0 where
-  pub least : 4096 ≤ found.cap
-  pub most : found.cap ≤ 16777216
+  pub range : IsCap found.cap
   pub read : IsReadFrom found.cap found.state registry
 
 -- The record at the base, which a log has unless its base is 0.

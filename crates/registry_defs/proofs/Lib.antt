@@ -4,3 +4,11 @@ pub mod Paths
 pub mod Sections
 pub mod Lengths
 pub mod Ranks
+pub mod Maps
+pub mod Totals
+pub mod Trees
+pub mod Keeping
+pub mod Steps
+pub mod Bounds
+pub mod Fields
+pub mod Held

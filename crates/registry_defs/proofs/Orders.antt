@@ -31,7 +31,7 @@ name_itself x = tied_itself name_total x
 pub path_itself : (x : List (List ℕ)) → path_cmp x x ≡ Equal
 path_itself x = tied_itself path_total x
 
-equal : (r : Ordering) → is_eq r ≡ true → r ≡ Equal
+pub equal : (r : Ordering) → is_eq r ≡ true → r ≡ Equal
 equal Less e = absurd (subst T (sym e) tt)
 equal Equal e = refl
 equal Greater e = absurd (subst T (sym e) tt)

@@ -1,10 +1,14 @@
 -- A registry as contracts see it: a finite map from folded paths to keys, and the size that it may have.
-use Rattle.std.specs.Prelude.{ℕ, List, refl}
+use Rattle.std.specs.Prelude.{ℕ, ◌≤◌, List, refl}
 use Rattle.std.specs.FinMap.{FinMap, entries}
 use Rattle.std.specs.FinMap as finite
 use Rattle.std.specs.Coded.{Coded, code_by, coded×, coded_list, coded_ℕ}
 use Rattle.clus_names.specs.Folding.{path_cmp}
 use Rattle.registry_defs.specs.Keys.{ValueData, Values, KeyData, Keys}
+
+-- The sizes that a registry may be given as its cap, in bytes.
+abbrev pub IsCap : ℕ → Type 0
+IsCap cap = (4096 ≤ cap) × (cap ≤ 16777216)
 
 pub record Contents : Type 0 where
   pub cap : ℕ

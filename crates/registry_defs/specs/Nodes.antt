@@ -1,8 +1,9 @@
 -- A key with all that stands below it, as one value.
-use Rattle.std.specs.Prelude.{ℕ, List, [], ◌∷◌, map, flat_map}
+use Rattle.std.specs.Prelude.{◌≡◌, ℕ, List, [], ◌∷◌, Some, map, flat_map}
 use Rattle.clus_names.specs.Folding.{folded, folded_parts}
 use Rattle.clus_names.specs.Parts.{parts_of}
-use Rattle.registry_defs.specs.Keys.{KeyData, Keys}
+use Rattle.registry_defs.specs.Keys.{KeyData, Keys, key_at}
+use Rattle.registry_defs.specs.Sections.{section}
 
 -- The key itself, and the keys below it under their paths from it.
 pub record Node : Type 0 where
@@ -11,6 +12,11 @@ pub record Node : Type 0 where
 
 abbrev pub keys_of : Node → Keys
 keys_of node = ([], node.here) ∷ node.below
+
+-- The node is that of the key at the path, with all below it.
+pub record IsAt (path : List (List ℕ)) (keys : Keys) (node : Node) : Type 0 where
+  pub here : key_at path keys ≡ Some node.here
+  pub all : keys_of node ≡ section path keys
 
 abbrev pub name_of : Node → List ℕ
 name_of node = folded node.here.part

@@ -1,6 +1,6 @@
 -- Reading a state field by field. A field is at fault, at its first byte, where it ends past `end` or breaks its rule, and
 -- it is cut off where too few bytes are there.
-use Rattle.std.specs.Prelude.{ℕ, zero, suc, ◌^◌, ◌-◌, List, [], ◌∷◌, length, Bool, true, ◌&&◌, Option, Some, None, Result, Ok, Err, nat_lt, nat_le, ◌==◌, if◌then◌else◌}
+use Rattle.std.specs.Prelude.{ℕ, List, length, Bool, true, ◌&&◌, Option, Some, None, Result, Ok, Err, nat_lt, nat_le, ◌==◌, if◌then◌else◌}
 use Rattle.wire_fields.specs.Reading.{Reading, bytes_at, number_at, times}
 
 -- Why a state is read no further, and where the field begins at which it ends.

@@ -11,6 +11,7 @@
 #![tactic(auto)]
 
 ghost use Rattle.std.specs.Prelude.{◌<◌, ◌≤◌};
+ghost use Rattle.registry_defs.specs.Contents.{IsCap};
 
 use clus_registry::{Registry, StateBuild, StateFault};
 use row_words::{Names, RowFault, bytes_of};
@@ -80,8 +81,7 @@ fn state_row(alloc: Global, names: &Names, text: &str) -> Result<String, RowFaul
 }
 
 fn in_pieces(alloc: Global, bytes: &[u8], cap: u32, count: usize) -> Result<Registry, StateFault>
-    requires least { 4096 ≤ cap }
-    requires most { cap ≤ 16777216 }
+    requires range { IsCap cap }
     requires some { 0 < count }
 {
     let mut build = StateBuild::new(alloc, cap);

@@ -19,3 +19,4 @@ pub mod FoundStates
 pub mod OnlyFields
 pub mod OnlyLevels
 pub mod OnlyNodes
+pub mod OneState

@@ -1,5 +1,6 @@
 ghost use Rattle.std.specs.Prelude.{◌≡◌, ◌+◌, ◌≤◌, [], ◌++◌, List, ℕ, length};
 ghost use Rattle.registry_states.specs.Builds.{FeedIs, GivesAgain, IsFed, KeepsBad};
+ghost use Rattle.registry_defs.specs.Contents.{IsCap};
 ghost use Rattle.registry_defs.specs.StateGrammar.{state_of};
 ghost use Rattle.registry_states.specs.States.{Decodes};
 ghost use Rattle.registry_states.specs.Turns.{longest_item};
@@ -42,8 +43,7 @@ impl Model for TreeBuild {
 impl TreeBuild {
     /// Takes no memory.
     pub fn new(alloc: Global, cap: u32) -> TreeBuild
-        requires least { 4096 ≤ cap }
-        requires most { cap ≤ 16777216 }
+        requires range { IsCap cap }
         ensures cap { result.cap ≡ cap }
         ensures fed { IsFed result [] }
     {

@@ -1,12 +1,12 @@
 use Rattle.std.proofs.Common.{◌≡◌, replicate, refl}
-use Rattle.wire_fields.specs.Numbers.{num}
+use Rattle.registry_defs.proofs.Held.{root_text}
 use Rattle.clus_cli.specs.Commands.{empty_registry}
 use Rattle.clus_cli.proofs.NumberLaws.{empty_formatted, empty_passes}
 use Rattle.clus_cli.proofs.running.format_log.Goals as goal
 
 zeros : replicate 16 0 ≡ empty_registry
-unfolding num empty_registry
-zeros = refl
+unfolding empty_registry
+zeros = root_text
 
 pub returns-in-Ok : goal.returns-in-Ok
 returns-in-Ok g c = record {

@@ -1,4 +1,5 @@
 use Rattle.std.proofs.Common.{◌≡◌, sym, ap, subst, ◌∙◌, arith}
+use Rattle.std.specs.Prelude.{is_some}
 use Rattle.clus_names.specs.Folding.{folded_parts}
 use Rattle.clus_names.specs.Parts.{parts_of}
 use Rattle.registry_defs.specs.Applying.{answered, if_born, create_applied}
@@ -7,8 +8,9 @@ use Rattle.registry_defs.specs.Contents.{Contents, keys_in}
 use Rattle.registry_defs.specs.Keys.{key_at}
 use Rattle.registry_defs.specs.Limits.{IsRegistry}
 use Rattle.registry_defs.specs.Nodes.{keys_of}
-use Rattle.clus_registry.proofs.Seen.{keys_are, registry_in, comes_to, unchanged, changed}
-use Rattle.clus_registry.proofs.Steps.{there_in, create_sum, create_registry, created_is, size_is}
+use Rattle.registry_defs.proofs.Held.{keys_are, registry_in}
+use Rattle.clus_registry.proofs.Seen.{comes_to, unchanged, changed}
+use Rattle.registry_defs.proofs.Steps.{there_in, create_sum, create_registry, created_is, size_is}
 use Rattle.clus_registry.proofs.Verdicts.{fits, too_large, target_at, create_there, create_missing}
 use Rattle.clus_registry.proofs.registry.Registry.create.Goals as goal
 
@@ -107,13 +109,12 @@ invariant_of-self-in-None-find c =
     let news = created place stamp q subkey es in
     let next : keys_of c.create.new.self ≡ news =
     c.in_ok-create-in-None-find.ensures.ok ∙ created_is place stamp key subkey c.units-in-None-find-2.result.now c.units-in-None-find-3.result.now es root c.units-in-None-find-2.ensures.parts c.units-in-None-find-3.ensures.parts keys in
-    let kept = create_registry place stamp key subkey es node registry at.at (record { first = c.requires.first; last = c.requires.last; small = omega arith }) c.requires.valid (c.units.ensures.limits.parts) in
+    let kept = create_registry place stamp key subkey es registry (ap is_some at.at.here) (record { first = c.requires.first; last = c.requires.last; small = omega arith }) c.requires.valid (c.units.ensures.limits.parts) in
     record {
       limits = subst IsRegistry (sym next) kept;
       counted = size_is c.size_after-size.result c.creation_growth.result.added c.creation_growth.result.freed es news (keys_of c.create.new.self) c.size_after-size.ensures sum next;
       fits = c.if-self-size.false;
-      least = c.self.invariant.least;
-      most = c.self.invariant.most;
+      range = c.self.invariant.range;
     }
 
 pub returns-in_ok-create-in-None-find : goal.returns-in_ok-create-in-None-find
@@ -134,7 +135,7 @@ returns-in_ok-create-in-None-find c =
     let news = created place stamp q subkey es in
     let next : keys_of c.create.new.self ≡ news =
     c.in_ok-create-in-None-find.ensures.ok ∙ created_is place stamp key subkey c.units-in-None-find-2.result.now c.units-in-None-find-3.result.now es root c.units-in-None-find-2.ensures.parts c.units-in-None-find-3.ensures.parts keys in
-    let kept = create_registry place stamp key subkey es node registry at.at (record { first = c.requires.first; last = c.requires.last; small = omega arith }) c.requires.valid (c.units.ensures.limits.parts) in
+    let kept = create_registry place stamp key subkey es registry (ap is_some at.at.here) (record { first = c.requires.first; last = c.requires.last; small = omega arith }) c.requires.valid (c.units.ensures.limits.parts) in
     let missing = sym (target_at key subkey c.units.result.now es node at.at c.units.ensures.parts) ∙ c.in-None-find.ensures.found in
     let same : c.self.inside.cap ≡ now.cap = ap (λ (b : Contents). b.cap) c.self.view_is in
     let within = c.if-self-size.false in

@@ -9,8 +9,9 @@ use Rattle.registry_defs.specs.Nodes.{keys_of, name_of}
 use Rattle.std.specs.Prelude.{is_some, nat_lt, option_map}
 use Rattle.registry_defs.specs.Sections.{has_subkeys, parent_of}
 use Rattle.registry_defs.specs.Sizes.{size}
-use Rattle.clus_registry.proofs.Seen.{keys_are, registry_in, comes_to, unchanged, changed}
-use Rattle.clus_registry.proofs.Steps.{is_below, delete_sum, delete_smaller, below_within, delete_registry, joined_is}
+use Rattle.registry_defs.proofs.Held.{keys_are, registry_in}
+use Rattle.clus_registry.proofs.Seen.{comes_to, unchanged, changed}
+use Rattle.registry_defs.proofs.Steps.{is_below, delete_sum, delete_smaller, below_within, delete_registry, joined_is}
 use Rattle.clus_registry.proofs.Verdicts.{target_at, section_at, no_key, key_holds, key_goes}
 use Rattle.clus_registry.proofs.registry.Registry.delete_key.Goals as goal
 
@@ -73,7 +74,7 @@ own_size-freed-requires c =
     let within = below_within path (name_of target) target.here es below registry found in
     let counted = c.self.invariant.counted in
     let fits = c.self.invariant.fits in
-    let most = c.self.invariant.most in
+    let most = c.self.invariant.range.1 in
     let sizes : size es ≡ size root = ap size keys in
     omega (arith, within, counted, fits, most, sizes)
 
@@ -204,8 +205,7 @@ invariant_of-self c =
       limits = subst IsRegistry (sym next) kept;
       counted = omega (arith, sum, own, first, second, counted, sizes, ap size next);
       fits = omega (arith, sum, own, first, second, counted, sizes, less, fits);
-      least = c.self.invariant.least;
-      most = c.self.invariant.most;
+      range = c.self.invariant.range;
     }
 
 pub returns-else-has_subkeys : goal.returns-else-has_subkeys

@@ -8,9 +8,10 @@ use Rattle.std.specs.Prelude.{is_some}
 use Rattle.registry_defs.specs.Limits.{IsRegistry}
 use Rattle.registry_defs.specs.Nodes.{keys_of, path_of}
 use Rattle.registry_defs.specs.Sizes.{key_size, size}
-use Rattle.clus_registry.proofs.Keeping.{registry_unset}
-use Rattle.clus_registry.proofs.Seen.{keys_are, registry_in, comes_to, changed}
-use Rattle.clus_registry.proofs.Steps.{change_sum, unset_smaller, change_is, size_is}
+use Rattle.registry_defs.proofs.Keeping.{registry_unset}
+use Rattle.registry_defs.proofs.Held.{keys_are, registry_in}
+use Rattle.clus_registry.proofs.Seen.{comes_to, changed}
+use Rattle.registry_defs.proofs.Steps.{change_sum, unset_smaller, change_is, size_is}
 use Rattle.clus_registry.proofs.Verdicts.{value_goes}
 use Rattle.clus_registry.proofs.registry.Registry.delete_value.Goals as goal
 
@@ -53,10 +54,10 @@ overflow_cast-self c =
     let sum = change_sum f q es node growth.added growth.freed registry at.at (subst (λ n. key_size q (without_value n stamp node.here) + growth.freed ≡ key_size q node.here + growth.added) named (c.in-Some-value_removal.ensures.exact q)) in
     let some = subst (λ n. is_some (value_at (folded n) node.here.values) ≡ true) named c.in-Some-value_removal.ensures.found in
     let told = c.size_after-size.ensures in
-    let less = unset_smaller name stamp q es node registry at.at some in
+    let less = unset_smaller name stamp q es node.here registry at.at.here some in
     let counted = c.self.invariant.counted in
     let fits = c.self.invariant.fits in
-    let most = c.self.invariant.most in
+    let most = c.self.invariant.range.1 in
     let sizes : size es ≡ size root = ap size keys in
     omega (arith, told, sum, less, sizes, counted, fits, most)
 
@@ -85,17 +86,16 @@ invariant_of-self c =
     ∙ change_is f key c.units-in-Some-value_removal.result.now es root c.units-in-Some-value_removal.ensures.parts keys in
     let kept = registry_unset name stamp q es (omega arith) registry in
     let told = c.size_after-size.ensures in
-    let less = unset_smaller name stamp q es node registry at.at some in
+    let less = unset_smaller name stamp q es node.here registry at.at.here some in
     let counted = c.self.invariant.counted in
     let fits = c.self.invariant.fits in
-    let most = c.self.invariant.most in
+    let most = c.self.invariant.range.1 in
     let sizes : size es ≡ size root = ap size keys in
     record {
       limits = subst IsRegistry (sym next) kept;
       counted = size_is c.size_after-size.result growth.added growth.freed es news (keys_of c.delete_value.new.self) told sum next;
       fits = omega (arith, told, sum, less, sizes, counted, fits);
-      least = c.self.invariant.least;
-      most = most;
+      range = c.self.invariant.range;
     }
 
 pub returns-in-Some-value_removal : goal.returns-in-Some-value_removal

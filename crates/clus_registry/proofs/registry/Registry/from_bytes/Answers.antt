@@ -9,4 +9,4 @@ returns-in_err-feed-clause-only c =
     let fault = c.in_err-feed.field-0.0 in
     let fails = refuses c.feed.new.self c.args.cap bytes fault (c.in_err-feed.ensures.cap ∙ c.new-build.ensures.cap) (c.in_err-feed.ensures.fed [] c.new-build.ensures.fed) in
     let p = err_from_is_err_and c.from_residual.result c.from_residual.ensures.1 in
-    rw (p.1, p.2) (λ keys is within text. no_fault c.args.cap bytes keys c.requires.most is within text fault fails)
+    rw (p.1, p.2) (λ keys is within text. no_fault c.args.cap bytes keys c.requires.range.1 is within text fault fails)

@@ -5,7 +5,8 @@ use Rattle.registry_defs.specs.Contents.{keys_in}
 use Rattle.registry_defs.specs.Limits.{IsRegistry}
 use Rattle.registry_defs.specs.Nodes.{keys_of, path_of}
 use Rattle.registry_defs.specs.Sizes.{size}
-use Rattle.clus_registry.proofs.Seen.{rising_found, fields_found, keys_are, path_is, found_at}
+use Rattle.registry_defs.proofs.Held.{keys_are}
+use Rattle.clus_registry.proofs.Seen.{rising_found, fields_found, path_is, found_at}
 use Rattle.clus_registry.proofs.registry.Registry.key_at.Goals as goal
 
 found : goal.returns-clause-found
@@ -34,7 +35,7 @@ returns-clause-fields c =
     let h = c.self.invariant in
     let counted = h.counted in
     let fits = h.fits in
-    let most = h.most in
+    let most = h.range.1 in
     let keys = keys_are c.args.self.now c.self.inside.cap es c.self.view_is h.limits in
     let small : size es < 2 ^ 32 = omega (arith, counted, fits, most) in
     fields_found c.find.result (folded_parts c.args.path.now) (keys_in c.args.self.now) (subst IsRegistry (sym keys) h.limits) (subst (λ (l : Keys). size l < 2 ^ 32) (sym keys) small) (found c)

@@ -3,7 +3,7 @@ use Rattle.registry_defs.specs.Keys.{root_alone}
 use Rattle.registry_defs.specs.Nodes.{Node}
 use Rattle.registry_defs.specs.Contents.{keys_in}
 use Rattle.registry_defs.specs.Nodes.{keys_of}
-use Rattle.clus_registry.proofs.Seen.{contents, root_registry, entries_are}
+use Rattle.registry_defs.proofs.Held.{contents, root_registry, entries_are}
 use Rattle.clus_registry.proofs.registry.Registry.new.Goals as goal
 
 pub returns-clause-keys : goal.returns-clause-keys

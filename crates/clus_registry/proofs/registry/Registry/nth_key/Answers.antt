@@ -1,7 +1,7 @@
 use Rattle.clus_names.specs.Folding.{folded_parts}
 use Rattle.registry_defs.specs.Contents.{keys_in}
 use Rattle.registry_defs.specs.Nodes.{subkey_entry}
-use Rattle.clus_registry.proofs.Bounds.{subkey_limits}
+use Rattle.registry_defs.proofs.Bounds.{subkey_limits}
 use Rattle.clus_registry.proofs.Seen.{no_subkeys}
 use Rattle.clus_registry.proofs.registry.Registry.nth_key.Goals as goal
 

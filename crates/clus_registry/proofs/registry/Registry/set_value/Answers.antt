@@ -6,9 +6,10 @@ use Rattle.registry_defs.specs.Contents.{Contents, keys_in}
 use Rattle.registry_defs.specs.Keys.{KeyData, key_at}
 use Rattle.registry_defs.specs.Limits.{IsRegistry}
 use Rattle.registry_defs.specs.Nodes.{keys_of, path_of}
-use Rattle.clus_registry.proofs.Keeping.{registry_set}
-use Rattle.clus_registry.proofs.Seen.{keys_are, registry_in, comes_to, unchanged, changed}
-use Rattle.clus_registry.proofs.Steps.{change_sum, change_is, size_is}
+use Rattle.registry_defs.proofs.Keeping.{registry_set}
+use Rattle.registry_defs.proofs.Held.{keys_are, registry_in}
+use Rattle.clus_registry.proofs.Seen.{comes_to, unchanged, changed}
+use Rattle.registry_defs.proofs.Steps.{change_sum, change_is, size_is}
 use Rattle.clus_registry.proofs.Verdicts.{born, fits, too_large}
 use Rattle.clus_registry.proofs.registry.Registry.set_value.Goals as goal
 
@@ -85,8 +86,7 @@ invariant_of-self-in-Some c =
       limits = subst IsRegistry (sym next) kept;
       counted = size_is c.size_after-size.result c.value_growth.result.added c.value_growth.result.freed es news (keys_of c.set_value.new.self) c.size_after-size.ensures sum next;
       fits = c.if-self-size.false;
-      least = c.self.invariant.least;
-      most = c.self.invariant.most;
+      range = c.self.invariant.range;
     }
 
 pub returns-in_ok-set_value-in-Some : goal.returns-in_ok-set_value-in-Some

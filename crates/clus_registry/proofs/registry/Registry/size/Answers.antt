@@ -2,7 +2,7 @@ use Rattle.std.proofs.Common.{sym, ap, subst, ◌∙◌}
 use Rattle.registry_defs.specs.Limits.{IsRegistry}
 use Rattle.registry_defs.specs.Nodes.{keys_of}
 use Rattle.registry_defs.specs.Sizes.{size}
-use Rattle.clus_registry.proofs.Seen.{keys_are}
+use Rattle.registry_defs.proofs.Held.{keys_are}
 use Rattle.clus_registry.proofs.registry.Registry.size.Goals as goal
 
 pub returns-clause-exact : goal.returns-clause-exact

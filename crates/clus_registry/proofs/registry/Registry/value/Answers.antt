@@ -1,7 +1,7 @@
 use Rattle.clus_names.specs.Folding.{folded, folded_parts}
 use Rattle.registry_defs.specs.Contents.{keys_in}
 use Rattle.registry_tree.specs.Values.{value_data}
-use Rattle.clus_registry.proofs.Bounds.{value_limits}
+use Rattle.registry_defs.proofs.Bounds.{value_limits}
 use Rattle.clus_registry.proofs.registry.Registry.value.Goals as goal
 
 pub returns-in-Some-value-clause-short : goal.returns-in-Some-value-clause-short

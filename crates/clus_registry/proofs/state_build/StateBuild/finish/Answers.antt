@@ -2,7 +2,7 @@ use Rattle.std.proofs.Common.{◌≤◌, ◌∙◌, arith}
 use Rattle.std.proofs.lemmas.Result.{err_from_is_err_and}
 use Rattle.registry_defs.specs.Nodes.{keys_of}
 use Rattle.clus_registry.proofs.Finishing.{counted, fails, fits, is_read, is_state, no_fault, same_keys}
-use Rattle.clus_registry.proofs.Seen.{entries_are}
+use Rattle.registry_defs.proofs.Held.{entries_are}
 use Rattle.clus_registry.proofs.state_build.StateBuild.finish.Goals as goal
 
 pub invariant_of-result : goal.invariant_of-result
@@ -17,8 +17,7 @@ invariant_of-result c =
       limits = (is_state kept root begun.stream begun.fed read).registry;
       counted = size_is;
       fits = omega (arith, size_is, within, begun.same_cap);
-      least = begun.least;
-      most = begun.most;
+      range = begun.range;
     }
 
 pub returns-clause-found : goal.returns-clause-found
@@ -30,7 +29,7 @@ pub returns-clause-only : goal.returns-clause-only
 returns-clause-only c =
     let kept = c.self.inside.tree in
     let root = c.in_ok-root.root in
-    let most : kept.cap ≤ 16777216 = omega (arith, c.self.invariant.most, c.self.invariant.same_cap) in
+    let most : kept.cap ≤ 16777216 = omega (arith, c.self.invariant.range.1, c.self.invariant.same_cap) in
     rw (← c.self.view_is)
     (λ stream fed keys is within text.
     let read = c.in_ok-root.ensures stream fed.1 in
@@ -40,7 +39,7 @@ pub returns-in_err-root-clause-only : goal.returns-in_err-root-clause-only
 returns-in_err-root-clause-only c =
     let kept = c.self.inside.tree in
     let fault = c.in_err-root.field-0.0 in
-    let most : kept.cap ≤ 16777216 = omega (arith, c.self.invariant.most, c.self.invariant.same_cap) in
+    let most : kept.cap ≤ 16777216 = omega (arith, c.self.invariant.range.1, c.self.invariant.same_cap) in
     let p = err_from_is_err_and c.from_residual.result c.from_residual.ensures.1 in
     rw (p.1, p.2, ← c.self.view_is)
     (λ stream fed keys is within text. no_fault kept.cap stream keys most is within text fault (fails kept.cap stream fault (c.in_err-root.ensures stream fed.1)))

@@ -7,14 +7,13 @@ use Rattle.clus_names.specs.Folding.{name_cmp}
 use Rattle.clus_names.specs.Limits.{IsPart}
 use Rattle.registry_defs.specs.Keys.{KeyData, Keys, ValueData, value_at}
 use Rattle.registry_defs.specs.Limits.{IsKey, IsNamed, IsRegistry, IsValue}
-use Rattle.registry_defs.specs.Nodes.{Node, keys_of}
+use Rattle.registry_defs.specs.Nodes.{Node, IsAt, keys_of}
 use Rattle.registry_defs.specs.Sections.{at_front, path_from, section, subkeys}
 use Rattle.registry_defs.proofs.Orders.{name_exact, name_total}
 use Rattle.registry_defs.proofs.Ranks.{each_got}
 use Rattle.registry_defs.proofs.Sections.{path_from_is}
-use Rattle.clus_registry.specs.Found.{IsAt}
-use Rattle.clus_registry.proofs.Keeping.{key_limits}
-use Rattle.clus_registry.proofs.Maps.{found_all}
+use Rattle.registry_defs.proofs.Keeping.{key_limits}
+use Rattle.registry_defs.proofs.Maps.{found_all}
 
 pub value_limits : (q : List (List ℕ)) (name : List ℕ) (es : Keys) (node : Node) (value : ValueData) → IsRegistry es → IsAt q es node → value_at name node.here.values ≡ Some value → IsValue value
 value_limits q name es node value registry at found =

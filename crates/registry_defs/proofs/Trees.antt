@@ -13,8 +13,8 @@ use Rattle.registry_defs.specs.Growth.{chain_size, creation_added, written_size_
 use Rattle.registry_defs.proofs.Orders.{path_total, path_exact, rising_from_sorted}
 use Rattle.registry_defs.proofs.Paths.{parent_below, longer, has_parent}
 use Rattle.registry_defs.proofs.Sections.{key_in_section}
-use Rattle.clus_registry.proofs.Maps.{some_of, not_none, none_unless, is_none_unless, either_put, some_put, other_put, put_is_there, sorted_put, sorted_without, found_without, not_without, found_itself}
-use Rattle.clus_registry.proofs.Totals.{size_found, total_put, found_within}
+use Rattle.registry_defs.proofs.Maps.{some_of, not_none, none_unless, is_none_unless, either_put, some_put, other_put, put_is_there, sorted_put, sorted_without, found_without, not_without, found_itself}
+use Rattle.registry_defs.proofs.Totals.{size_found, total_put, found_within}
 
 pub record IsTree (es : Keys) : Type 0 where
   pub sorted : IsTrue (is_sorted path_cmp es)

@@ -11,7 +11,7 @@ use Rattle.registry_defs.specs.Keys.{without}
 use Rattle.registry_defs.specs.Rising.{Rising}
 use Rattle.registry_defs.specs.Sizes.{total}
 use Rattle.registry_defs.proofs.Runs as Runs
-use Rattle.clus_registry.proofs.Maps.{same_key}
+use Rattle.registry_defs.proofs.Maps.{same_key}
 
 abbrev pub size_found : {K X : Type 0} → (K → X → ℕ) → K → Option X → ℕ
 size_found size q None = 0

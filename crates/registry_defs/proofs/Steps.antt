@@ -12,15 +12,14 @@ use Rattle.registry_defs.specs.Sizes.{written_size, value_size, key_size, size}
 use Rattle.registry_defs.specs.Limits.{IsRegistry}
 use Rattle.registry_defs.specs.Changes.{at_key, without_value, created, key_deleted}
 use Rattle.registry_defs.specs.Growth.{creation_added, creation_freed}
-use Rattle.registry_defs.specs.Nodes.{Node, keys_of, path_of}
+use Rattle.registry_defs.specs.Nodes.{Node, IsAt, keys_of, path_of}
 use Rattle.registry_defs.proofs.Orders.{name_total, name_exact, path_total, path_exact, rising_from_sorted}
 use Rattle.registry_defs.proofs.Paths.{folded-below, text_folded}
 use Rattle.update_records.specs.Validity.{FitTogether}
-use Rattle.clus_registry.specs.Found.{IsAt}
-use Rattle.clus_registry.proofs.Maps.{not_none}
-use Rattle.clus_registry.proofs.Totals.{found_within}
-use Rattle.clus_registry.proofs.Trees.{size_at_key, created_sum, added_below, freed_below, deleted_sum}
-use Rattle.clus_registry.proofs.Keeping.{tree_of, key_limits, IsStamp, registry_created, registry_deleted}
+use Rattle.registry_defs.proofs.Maps.{not_none}
+use Rattle.registry_defs.proofs.Totals.{found_within}
+use Rattle.registry_defs.proofs.Trees.{size_at_key, created_sum, added_below, freed_below, deleted_sum}
+use Rattle.registry_defs.proofs.Keeping.{tree_of, key_limits, IsStamp, registry_created, registry_deleted}
 
 pub there : (q : List (List ℕ)) (es : Keys) (node : Node) → IsAt q es node → IsSome (key_at q es)
 there q es node at = ap is_some at.here
@@ -48,11 +47,11 @@ the_value : (o : Option ValueData) → IsSome o → IsValueIn o
 the_value None h = absurd (not_none {X = ValueData} None refl h)
 the_value (Some v) h = record { value = v; is = refl }
 
-pub unset_smaller : (name : List ℕ) (stamp : ℕ) (q : List (List ℕ)) (es : Keys) (node : Node) → IsRegistry es → IsAt q es node → is_some (value_at (folded name) node.here.values) ≡ true → size (at_key (without_value name stamp) q es) ≤ size es
-unset_smaller name stamp q es node registry at some =
-    let is = key_limits q node.here es registry at.here in
-    let value = the_value (value_at (folded name) node.here.values) some in
-    omega (arith, without_smaller name stamp q node.here value.value is.values.rising value.is, size_at_key (without_value name stamp) q node.here es registry.rising at.here)
+pub unset_smaller : (name : List ℕ) (stamp : ℕ) (q : List (List ℕ)) (es : Keys) (d : KeyData) → IsRegistry es → key_at q es ≡ Some d → is_some (value_at (folded name) d.values) ≡ true → size (at_key (without_value name stamp) q es) ≤ size es
+unset_smaller name stamp q es d registry found some =
+    let is = key_limits q d es registry found in
+    let value = the_value (value_at (folded name) d.values) some in
+    omega (arith, without_smaller name stamp q d value.value is.values.rising value.is, size_at_key (without_value name stamp) q d es registry.rising found)
 
 -- ---- new keys
 
@@ -66,10 +65,10 @@ create_sum place stamp key subkey parts es node added freed registry at is adds 
     frees ∙ ap (λ l. creation_freed [] l (keys_of node)) is ∙ ap (creation_freed [] subkey) at.all ∙ freed_below q [] subkey es ∙ ap (λ l. creation_freed l subkey es) (append-nil q) in
     omega (arith, more, less, created_sum place stamp q subkey es (tree_of es registry) (there q es node at))
 
-pub create_registry : (place stamp : ℕ) (key subkey : List (List ℕ)) (es : Keys) (node : Node) → IsRegistry es → IsAt (folded_parts key) es node → IsStamp place stamp → FitTogether key subkey → All IsPart subkey → IsRegistry (created place stamp (folded_parts key) subkey es)
-create_registry place stamp key subkey es node registry at fits valid parts =
+pub create_registry : (place stamp : ℕ) (key subkey : List (List ℕ)) (es : Keys) → IsRegistry es → IsSome (key_at (folded_parts key) es) → IsStamp place stamp → FitTogether key subkey → All IsPart subkey → IsRegistry (created place stamp (folded_parts key) subkey es)
+create_registry place stamp key subkey es registry there fits valid parts =
     let short : length (text_of (folded_parts key ++ folded_parts subkey)) ≤ 1023 = omega (arith, valid, text_folded (key ++ subkey), ap (λ l. length (text_of l)) (folded-below key subkey)) in
-    registry_created place stamp (folded_parts key) subkey es fits parts short (there (folded_parts key) es node at) registry
+    registry_created place stamp (folded_parts key) subkey es fits parts short there registry
 
 -- ---- a key that goes
 

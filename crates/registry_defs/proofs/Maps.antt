@@ -9,15 +9,7 @@ use Rattle.std.specs.Cmp.{IsTotalOrder, tied_itself}
 use Rattle.std.specs.FinMap.{find, put, is_sorted, IsAntisymmetric}
 use Rattle.std.specs.FinMap.Entries.{by_order, is_sorted-put, is_sorted-where_key, find-put, find-where_key}
 use Rattle.registry_defs.specs.Keys.{without}
-
-equal : (r : Ordering) → is_eq r ≡ true → r ≡ Equal
-equal Less e = absurd (subst T (sym e) tt)
-equal Equal e = refl
-equal Greater e = absurd (subst T (sym e) tt)
-
-so : (b : Bool) → T b → b ≡ true
-so true t = refl
-so false t = absurd t
+use Rattle.registry_defs.proofs.Orders.{equal, so}
 
 pub some_of : {X : Type 0} {o p : Option X} → o ≡ p → IsSome o → IsSome p
 some_of e h = ap is_some (sym e) ∙ h

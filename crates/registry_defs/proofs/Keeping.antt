@@ -14,8 +14,8 @@ use Rattle.registry_defs.specs.Limits.{IsValue, AreValues, IsNamed, IsKey, IsReg
 use Rattle.registry_defs.specs.Changes.{put_changed, at_key, stamped, kept_name, value_set, with_value, without_value, new_key, chain_made, created, key_deleted}
 use Rattle.registry_defs.proofs.Orders.{name_total, name_exact, path_total, path_exact}
 use Rattle.registry_defs.proofs.Paths.{below-parts, short_below, ends_in}
-use Rattle.clus_registry.proofs.Maps.{some_of, each_put, each_without, found_all, all_found, some_put, sorted_put, sorted_without, found_without}
-use Rattle.clus_registry.proofs.Trees.{IsTree, the_found, tree_put, there_at_key, there_now, parent_there, tree_without}
+use Rattle.registry_defs.proofs.Maps.{some_of, each_put, each_without, found_all, all_found, some_put, sorted_put, sorted_without, found_without}
+use Rattle.registry_defs.proofs.Trees.{IsTree, the_found, tree_put, there_at_key, there_now, parent_there, tree_without}
 
 -- ---- a registry as a tree
 
