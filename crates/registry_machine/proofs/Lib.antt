@@ -1,0 +1,6 @@
+pub mod Changes
+pub mod Orders
+pub mod Instance
+pub mod Folds
+pub mod Calls
+pub mod Runs
