@@ -41,6 +41,10 @@ there_if_born : (birth : ℕ) (o : Option KeyData) → is_born birth o ≡ true 
 there_if_born birth None born = absurd cc
 there_if_born birth (Some d) born = refl
 
+there_if_valued : (name : List ℕ) (o : Option KeyData) → has_value name o ≡ true → IsSome o
+there_if_valued name None valued = absurd cc
+there_if_valued name (Some d) valued = refl
+
 -- ---- the kinds of change
 
 module _ (cap place stamp : ℕ) (fits : IsStamp place stamp) (es : Keys) (is : IsWithin cap es) where
@@ -58,20 +62,16 @@ module _ (cap place stamp : ℕ) (fits : IsStamp place stamp) (es : Keys) (is : 
 
   unset_kept : (key : List (List ℕ)) (name : List ℕ) → IsWithin cap (delete_value_applied stamp key name es).keys
   unset_kept key name =
-      by (key_at (folded_parts key) es) refl
-    where
-      q : List (List ℕ)
-      q = folded_parts key
-      by : (o : Option KeyData) → key_at q es ≡ o → IsWithin cap (delete_value_applied stamp key name es).keys
-      by None none = rw none is
-      by (Some d) found = rw found (
-        elim (is_some (value_at (folded name) d.values)) as (λ b. is_some (value_at (folded name) d.values) ≡ b → IsWithin cap (cond b (done (at_key (without_value name stamp) q es)) (refused 2 es)).keys) [
-          | true ↦ λ some. record {
-            limits = registry_unset name stamp q es fits.small is.limits;
-            fits = (let within = is.fits in omega (arith, within, unset_smaller name stamp q es d is.limits found some));
-          }
-          | false ↦ λ _. is
-        ] refl)
+      elim (has_value name (key_at (folded_parts key) es)) as (λ b. has_value name (key_at (folded_parts key) es) ≡ b → IsWithin cap (cond b (done (at_key (without_value name stamp) (folded_parts key) es)) (refused 2 es)).keys) [
+        | true ↦ λ some.
+            let found = the_found (key_at (folded_parts key) es) (there_if_valued name (key_at (folded_parts key) es) some) in
+            let within = is.fits in
+            record {
+              limits = registry_unset name stamp (folded_parts key) es fits.small is.limits;
+              fits = omega (arith, within, unset_smaller name stamp (folded_parts key) es found.key is.limits found.is (sym (ap (has_value name) found.is) ∙ some));
+            }
+        | false ↦ λ _. is
+      ] refl
 
   deleted_kept : (key subkey : List (List ℕ)) → 0 < length subkey → IsWithin cap (delete_key_applied stamp (folded_parts (key ++ subkey)) es).keys
   deleted_kept key subkey some =
@@ -120,7 +120,7 @@ resolved_birth key birth es registry is = record { path = is.path; in_range = sm
 
 pub resolved_is : (c : Change) (es : Keys) → IsRegistry es → IsChange c → IsChange (resolved c es)
 resolved_is (change.Create key birth subkey) es registry is = record { fields = (resolved_birth key birth es registry is.fields.0, is.fields.1); valid = is.valid }
-resolved_is (change.SetValue key birth name kind bytes) es registry is = record { fields = (resolved_birth key birth es registry is.fields.0, is.fields.1); valid = is.valid }
+resolved_is (change.SetValue key birth name kind bytes) es registry is = record { fields = (resolved_birth key birth es registry is.fields.0, is.fields.1, is.fields.2, is.fields.3); valid = is.valid }
 resolved_is (change.DeleteValue key birth name) es registry is = record { fields = (resolved_birth key birth es registry is.fields.0, is.fields.1); valid = is.valid }
 resolved_is (change.DeleteKey key birth subkey) es registry is = record { fields = (resolved_birth key birth es registry is.fields.0, is.fields.1); valid = is.valid }
 

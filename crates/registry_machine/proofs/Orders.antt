@@ -35,7 +35,7 @@ empty_kept cap is =
     let sixteen : size root_alone ≡ 16 = refl in
     record { same = refl; within = record { limits = root_registry; fits = omega (arith, least, sixteen) } }
 
-first_fit : {P : Entry → Type 0} (count : ℕ) (order : List Entry) → AllByRecursion P order → AllByRecursion P (take count order)
+first_fit : (count : ℕ) (order : List Entry) → AllByRecursion IsFitting order → AllByRecursion IsFitting (take count order)
 first_fit zero order h = tt
 first_fit (suc count) [] h = tt
 first_fit (suc count) (e ∷ es) h = (h.0, first_fit count es h.1)

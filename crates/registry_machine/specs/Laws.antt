@@ -1,5 +1,6 @@
 -- What holds of the registry as a machine, and how the code's calls are tied to it.
-use Rattle.std.specs.Prelude.{◌≡◌, ℕ, ◌≤◌, List, AllByRecursion, Some, None}
+use Rattle.std.specs.Prelude.{◌≡◌, ℕ, ◌≤◌, List, Some, None}
+use Rattle.std.specs.List.{AllByRecursion}
 use Rattle.gum_messages.specs.Places.{at_place}
 use Rattle.update_records.specs.Entry.{Entry}
 use Rattle.registry_defs.specs.declared.outcome.Outcome.{Outcome}
