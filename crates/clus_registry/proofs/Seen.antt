@@ -1,14 +1,13 @@
 -- The map of a registry, and the entries of its tree.
-use Rattle.std.proofs.Common.{◌≡◌, ℕ, ◌<◌, ◌^◌, T, Bor, List, [], Option, Some, None, refl, sym, ap, subst, ◌∙◌, arith}
+use Rattle.std.proofs.Common.{◌≡◌, ℕ, ◌<◌, ◌^◌, Bor, List, [], Option, Some, None, refl, sym, ap, subst, ◌∙◌, arith}
 use Rattle.std.specs.Prelude.{MatchOption, IfSome, slice_get}
-use Rattle.std.specs.FinMap.{entries, from_sorted, entries-from_sorted}
 use Rattle.clus_names.specs.Folding.{folded_parts, path_cmp}
 use Rattle.clus_names.specs.Parts.{parts_of}
 use Rattle.registry_defs.specs.declared.outcome.Outcome.{Outcome}
-use Rattle.registry_defs.specs.Keys.{KeyData, Keys, key_at, new_root, root_alone}
+use Rattle.registry_defs.specs.Keys.{KeyData, Keys, key_at}
 use Rattle.registry_defs.specs.Applying.{Applied}
 use Rattle.registry_defs.specs.Contents.{Contents, keys_in}
-use Rattle.registry_defs.specs.Limits.{AreValues, IsKey, IsRegistry, HaveFields}
+use Rattle.registry_defs.specs.Limits.{IsRegistry, HaveFields}
 use Rattle.registry_defs.specs.Nodes.{Node, keys_of, path_of}
 use Rattle.registry_defs.specs.Rising.{RisingKeys}
 use Rattle.registry_defs.specs.Sections.{section, subkeys}

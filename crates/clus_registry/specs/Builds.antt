@@ -1,5 +1,5 @@
 -- What a state's build was fed, and what its calls give.
-use Rattle.std.specs.Prelude.{◌≡◌, ℕ, ◌≤◌, List, ◌++◌, Result, Ok, Err}
+use Rattle.std.specs.Prelude.{◌≡◌, ℕ, List, ◌++◌, Result, Ok, Err}
 use Rattle.wire_fields.specs.Numbers.{IsBytes}
 use Rattle.registry_defs.specs.Contents.{IsCap}
 use Rattle.registry_states.specs.Builds.{IsAtFault, IsSound, Kept}

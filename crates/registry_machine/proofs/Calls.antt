@@ -1,15 +1,12 @@
 -- What the calls on a registry make is what the machine makes.
-use Rattle.std.proofs.Common.{◌≡◌, ℕ, Result, Ok, Err, Some, None, sym, ap, ◌∙◌, inl, inr}
-use Rattle.registry_defs.specs.declared.outcome.Outcome.{Outcome}
-use Rattle.registry_defs.specs.Applying.{update_applied}
+use Rattle.std.proofs.Common.{◌≡◌, ℕ, Result, Some, None, sym, ap, ◌∙◌, inl, inr}
 use Rattle.registry_defs.specs.Contents.{keys_in}
-use Rattle.registry_defs.specs.Keys.{Keys}
 use Rattle.registry_defs.specs.Nodes.{Node}
 use Rattle.registry_defs.specs.StateFields.{Stop}
 use Rattle.registry_defs.specs.StateGrammar.{state_of}
 use Rattle.registry_states.specs.States.{IsFaultAt}
-use Rattle.registry_machine.specs.Machine.{ReplicatedRegistry, record_applied, registry_below, registry_decoded}
-use Rattle.registry_machine.specs.Laws.{IsWithin, AppliesAsMachine, ReadsAsMachine, FailsAsMachine}
+use Rattle.registry_machine.specs.Machine.{record_applied, registry_below, registry_decoded}
+use Rattle.registry_machine.specs.Laws.{AppliesAsMachine, ReadsAsMachine, FailsAsMachine}
 use Rattle.registry_machine.proofs.Instance.{encoded_is_decoded}
 
 pub applies_as_machine : AppliesAsMachine

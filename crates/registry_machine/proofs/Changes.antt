@@ -1,9 +1,9 @@
 -- What each update makes of a registry within its cap is one.
-use Rattle.std.proofs.Common.{◌≡◌, ℕ, ◌+◌, ◌<◌, ◌≤◌, ◌^◌, Bool, true, false, cond, List, [], ◌∷◌, ◌++◌, length, Option, Some, None, refl, sym, ap, subst, ◌∙◌, All, arith}
+use Rattle.std.proofs.Common.{◌≡◌, ℕ, ◌+◌, ◌<◌, ◌^◌, true, false, cond, List, [], ◌∷◌, ◌++◌, length, Option, Some, None, refl, sym, ap, ◌∙◌, All, arith}
 use Rattle.std.specs.Prelude.{IsSome, is_some, is_none, option_map, nat_lt, ◌==◌}
 use Rattle.std.proofs.lemmas.Bool.{ltb-false}
 use Rattle.std.proofs.lemmas.List.Elements.{All-head, All-tail}
-use Rattle.clus_names.specs.Folding.{folded, folded_parts}
+use Rattle.clus_names.specs.Folding.{folded_parts}
 use Rattle.update_records.specs.declared.change.Change.{Change}
 use Rattle.update_records.specs.declared.change.Change.TheVariants as change
 use Rattle.update_records.specs.declared.update.Update.{Update}
@@ -11,13 +11,13 @@ use Rattle.update_records.specs.declared.update.Update.TheVariants.{Create, SetV
 use Rattle.update_records.specs.Limits.{IsKey, IsChange, IsUpdate}
 use Rattle.registry_defs.specs.Applying.{Applied, answered, refused, done, is_born, if_born, if_fits, has_value, create_found, create_applied, set_value_applied, delete_value_applied, delete_key_applied, change_applied, birth_or, resolved, refused_at, changes_applied, update_applied}
 use Rattle.registry_defs.specs.Changes.{at_key, with_value, without_value, created, key_deleted}
-use Rattle.registry_defs.specs.Keys.{KeyData, Keys, key_at, value_at}
+use Rattle.registry_defs.specs.Keys.{KeyData, Keys, key_at}
 use Rattle.registry_defs.specs.Limits.{IsRegistry}
 use Rattle.registry_defs.specs.Sections.{has_subkeys, parent_of}
 use Rattle.registry_defs.specs.Sizes.{size}
 use Rattle.registry_defs.proofs.Fields.{birth_fits}
-use Rattle.registry_defs.proofs.Keeping.{IsStamp, IsData, tree_of, key_limits, registry_set, registry_unset}
-use Rattle.registry_defs.proofs.Steps.{IsBelow, is_below, unset_smaller, create_registry, delete_registry, delete_sum, delete_smaller}
+use Rattle.registry_defs.proofs.Keeping.{IsStamp, tree_of, key_limits, registry_set, registry_unset}
+use Rattle.registry_defs.proofs.Steps.{is_below, unset_smaller, create_registry, delete_registry, delete_sum, delete_smaller}
 use Rattle.registry_defs.proofs.Trees.{the_found}
 use Rattle.registry_machine.specs.Laws.{IsWithin}
 
@@ -79,6 +79,7 @@ module _ (cap place stamp : ℕ) (fits : IsStamp place stamp) (es : Keys) (is : 
     where
       path : List (List ℕ)
       path = folded_parts (key ++ subkey)
+
       goes : (d : KeyData) → key_at path es ≡ Some d → has_subkeys path es ≡ false → IsWithin cap (key_deleted stamp path es)
       goes d found none =
           let below = is_below key subkey some in
@@ -89,6 +90,7 @@ module _ (cap place stamp : ℕ) (fits : IsStamp place stamp) (es : Keys) (is : 
             limits = delete_registry stamp path d es below is.limits fits.small found none;
             fits = omega (arith, within, delete_smaller stamp above.key.written path [] d es sum);
           }
+
       by : (o : Option KeyData) → key_at path es ≡ o → IsWithin cap (cond (is_none o) (refused 2 es) (cond (has_subkeys path es) (refused 1020 es) (done (key_deleted stamp path es)))).keys
       by None none = is
       by (Some d) found =

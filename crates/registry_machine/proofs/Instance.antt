@@ -1,10 +1,9 @@
 -- The registry is a machine as the protocol asks for.
-use Rattle.std.proofs.Common.{◌≡◌, ℕ, ◌<◌, ◌≤◌, ◌^◌, List, Some, refl, sym, ap, ◌∙◌, arith}
+use Rattle.std.proofs.Common.{◌≡◌, ℕ, ◌≤◌, List, Some, refl, sym, ap, ◌∙◌, arith}
 use Rattle.std.specs.List.{AllByRecursion}
 use Rattle.update_records.specs.Entry.{Entry}
 use Rattle.registry_defs.specs.Contents.{IsCap}
 use Rattle.registry_defs.specs.Keys.{Keys}
-use Rattle.registry_defs.specs.Nodes.{keys_of}
 use Rattle.registry_defs.specs.Spelling.{registry_text}
 use Rattle.registry_states.proofs.OnlyNodes.{spelled_is_read}
 use Rattle.cluster_rules.specs.Machines.{IsMachine, replay}

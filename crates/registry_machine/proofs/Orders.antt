@@ -1,5 +1,5 @@
 -- Behind an order of fitting records a registry is one within its cap.
-use Rattle.std.proofs.Common.{◌≡◌, ℕ, ◌≤◌, zero, suc, List, [], ◌∷◌, take, refl, sym, subst, arith}
+use Rattle.std.proofs.Common.{◌≡◌, ℕ, zero, suc, List, [], ◌∷◌, take, refl, sym, subst, arith}
 use Rattle.std.specs.List.{AllByRecursion}
 use Rattle.update_records.specs.Entry.{Entry}
 use Rattle.registry_defs.specs.Contents.{IsCap}
