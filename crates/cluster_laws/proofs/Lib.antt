@@ -21,3 +21,13 @@ pub mod Lockers
 pub mod Theorem
 pub mod Points
 pub mod Orders
+pub mod Going
+pub mod Rounds
+pub mod Serving
+pub mod Served
+pub mod Cores
+pub mod Unstuck
+pub mod Joined
+pub mod Opens
+pub mod Witness
+pub mod Law

@@ -1,0 +1,91 @@
+-- What a world can still come to, where messages get through, the disk answers and nobody dies.
+use Rattle.std.specs.Prelude.{◌≡◌, ℕ, ◌+◌, ◌<◌, ◌≤◌, Bool, true, false, ◌||◌, List, [], ◌∷◌, length, Option, Some, None}
+use Rattle.std.specs.List.{list_all}
+use Rattle.gum_messages.specs.declared.member.Member.{Member}
+use Rattle.gum_messages.specs.declared.view.View.{View}
+use Rattle.gum_messages.specs.Members.{inc_of}
+use Rattle.gum_messages.specs.Places.{at_place}
+use Rattle.gum_messages.specs.Views.{IsView}
+use Rattle.update_records.specs.Entry.{Entry}
+use Rattle.gum_core.specs.Updating.{last_place}
+use Rattle.view_reconcile.specs.Joining as joining
+use Rattle.view_reconcile.specs.Chains.{has_left}
+use Rattle.cluster_rules.specs.Machines.{Machine}
+use Rattle.cluster_rules.specs.Nodes.{NodeState}
+use Rattle.cluster_rules.specs.Updates.{Written}
+use Rattle.cluster_rules.specs.Worlds.{Declare, Deliver, Event, Install, Recovered, Start, Tick, World, run}
+
+-- A message is delivered, where the log takes the record; a node repeats what it waits for.
+abbrev pub goes_on : Event → Bool
+goes_on e = elim e [ Deliver k answer ↦ elim answer [ Written ↦ true | _ ↦ false ] | Tick n ↦ true | _ ↦ false ]
+
+-- Also a node starts, a view is declared, or taken with a log that can be recovered.
+abbrev pub joins_again : Event → Bool
+joins_again e = goes_on e || elim e [ Start n ↦ true | Declare v ↦ true | Install n v opening ↦ elim opening [ Recovered found ↦ true | _ ↦ false ] | _ ↦ false ]
+
+-- A member of a view runs in it.
+pub record Runs {M : Machine} (w : World M) (v : View) (n : ℕ) (x : NodeState M) : Type 0 where
+  pub node : w.nodes n ≡ Some x
+  pub inc : x.join.inc ≡ inc_of v.members n
+  pub view : x.join.view ≡ v
+
+-- A view stands: it is the last one whose log was recovered, and each of its members runs in it.
+pub record Standing {M : Machine} (w : World M) (v : View) : Type 0 where
+  pub shape : IsView v
+  pub held : w.log.held ≡ v.number
+  pub member : (n : ℕ) → 0 < inc_of v.members n → (x : NodeState M) × Runs w v n x
+
+-- How many requests its members have queued; the log has a place for each.
+abbrev pub queue_at : {M : Machine} → World M → ℕ → ℕ
+queue_at w n = elim (w.nodes n) [ None ↦ 0 | Some x ↦ length x.core.queue ]
+
+abbrev pub waiting : {M : Machine} → World M → List Member → ℕ
+waiting w [] = 0
+waiting w (m ∷ ms) = queue_at w m.node + waiting w ms
+
+abbrev pub has_room : {M : Machine} → World M → View → Type 0
+has_room w v = length w.log.order + waiting w v.members ≤ last_place
+
+-- A request of an incarnation has its record in the order, and an acknowledgement at its place.
+pub record Acknowledged {M : Machine} (w : World M) (n i q : ℕ) : Type 0 where
+  pub record_ : Entry
+  pub stands : at_place w.log.order record_.place ≡ Some record_
+  pub node : record_.id.node ≡ n
+  pub inc : record_.id.inc ≡ i
+  pub req : record_.id.req ≡ q
+  pub ack : ℕ
+  pub view : ℕ
+  pub acked : at_place w.acks ack ≡ Some (view, record_.place)
+
+-- A member of a view at rest: open, with nothing queued and no lock.
+pub record Rests {M : Machine} (w : World M) (v : View) (n : ℕ) : Type 0 where
+  pub state : NodeState M
+  pub runs : Runs w v n state
+  pub open_ : joining.is_open state.join ≡ true
+  pub queue : state.core.queue ≡ []
+  pub lock : state.core.lock ≡ None
+
+-- All is done in a view: its members rest, and each update that one of them ever took is acknowledged.
+pub record Served {M : Machine} (w : World M) (v : View) : Type 0 where
+  pub rests : (n : ℕ) → 0 < inc_of v.members n → Rests w v n
+  pub acked : (n q : ℕ) → 0 < inc_of v.members n → 1 ≤ q → q ≤ length (w.requests n (inc_of v.members n)) → Acknowledged w n (inc_of v.members n) q
+
+-- There are events of a kind after which something holds.
+pub record Leads {M : Machine} (kind : Event → Bool) (w : World M) (Q : World M → Type 0) : Type 0 where
+  pub events : List Event
+  pub going : list_all kind events ≡ true
+  pub ends : Q (run events w)
+
+-- No reachable world is stuck: where a view stands, deliveries and ticks alone serve each request.
+abbrev pub Unstuck : {M : Machine} → World M → Type 0
+Unstuck w = (v : View) → Standing w v → has_room w v → Leads goes_on w (λ u. Served u v)
+
+-- A view in which every node stands and is open that ran before and had not left the views.
+pub record Gathered {M : Machine} (before w : World M) (v : View) : Type 0 where
+  pub standing : Standing w v
+  pub open_ : (n : ℕ) (x : NodeState M) → 0 < inc_of v.members n → w.nodes n ≡ Some x → joining.is_open x.join ≡ true
+  pub all : (n : ℕ) (x : NodeState M) → 1 ≤ n → n ≤ 16 → before.nodes n ≡ Some x → has_left before.chain (record { node = n; inc = x.join.inc }) ≡ false → inc_of v.members n ≡ x.join.inc
+
+-- From every reachable world there is a way into a view.
+abbrev pub Rejoins : {M : Machine} → World M → Type 0
+Rejoins w = ((k : ℕ) (v : View) → at_place w.chain k ≡ Some v → IsView v) → Leads joins_again w (λ u. (v : View) × Gathered w u v)
