@@ -1,11 +1,13 @@
 -- The invariants of the world.
-use Rattle.std.proofs.Common.{◌≡◌, ◌≢◌, ℕ, ◌+◌, ◌-◌, ◌<◌, ◌≤◌, true, false, List, [], ◌∷◌, length, take, drop, Option, Some, None, slice_get}
+use Rattle.std.proofs.Common.{◌≡◌, ◌≢◌, ℕ, ◌+◌, ◌-◌, ◌<◌, ◌≤◌, ◌^◌, true, false, List, [], ◌∷◌, length, take, drop, Option, Some, None, slice_get}
+use Rattle.std.specs.List.{AllByRecursion}
 use Rattle.gum_messages.specs.declared.member.Member.{Member}
 use Rattle.gum_messages.specs.declared.view.View.{View}
 use Rattle.gum_messages.specs.Members.{inc_of, locker_of, spread_of}
 use Rattle.gum_messages.specs.Places.{at_place}
 use Rattle.update_records.specs.Entry.{Entry}
 use Rattle.update_records.specs.declared.update.Update.{Update}
+use Rattle.update_records.specs.Limits.{IsUpdate}
 use Rattle.gum_core.specs.declared.lock.Lock.{Lock}
 use Rattle.gum_core.specs.declared.spreading.Spreading.{Spreading}
 use Rattle.gum_core.specs.Updating.{greatest_of}
@@ -86,6 +88,13 @@ pub record Has (r : Entry) (n i q : ℕ) : Type 0 where
 -- no record of the order up to place k has this id
 pub record NotBefore (l : Log) (n i req k : ℕ) : Type 0 where
   pub none : (r : Entry) → at_place l.order r.place ≡ Some r → Has r n i req → k < r.place
+
+-- what the machine asks of a log: its capacity is one that a log may have, and each record of the order and the
+-- doubtful one fits
+pub record FittingLog (M : Machine) (cap : ℕ) (order : List Entry) (doubtful : Option Entry) : Type 0 where
+  pub is_cap : M.IsCap cap
+  pub records : AllByRecursion M.Fits order
+  pub doubt : (r : Entry) → doubtful ≡ Some r → M.Fits r
 
 module _ {M : Machine} where
   -- no waiting head of it has its record among the first c
@@ -242,6 +251,13 @@ module _ {M : Machine} where
     pub place : k ≤ length w.log.order
     pub later : (u c : ℕ) → w.log.count u ≡ Some c → v < u → k ≤ c
     pub members : AllReached w view.members k
+
+  -- What the machine asks of the world: its log is as above, each update that a node took is valid, and each node's
+  -- stamp is one of 64 bits.
+  pub record Fitting (w : World M) : Type 0 where
+    pub log : FittingLog M w.log.cap w.log.order w.log.doubtful
+    pub updates : (n i : ℕ) → AllByRecursion IsUpdate (w.requests n i)
+    pub stamps : (n : ℕ) (x : NodeState M) → w.nodes n ≡ Some x → x.stamp < 2 ^ 64
 
   pub record ChainOk (w : World M) : Type 0 where
     pub chain : IsChain w.chain

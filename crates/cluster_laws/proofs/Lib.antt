@@ -18,6 +18,8 @@ pub mod Installing
 pub mod Starting
 pub mod Ticking
 pub mod Lockers
+pub mod Events
+pub mod Fitting
 pub mod Theorem
 pub mod Points
 pub mod Orders

@@ -1,5 +1,6 @@
 -- Offers are followed, and the state is pulled.
 use Rattle.std.proofs.Common.{◌≡◌, ◌≢◌, inl, ℕ, zero, suc, ◌+◌, ◌<◌, ◌≤◌, true, false, not, ◌&&◌, List, [], ◌∷◌, ◌++◌, length, take, drop, Option, Some, None, nat_eq, cond, if◌then◌else◌, refl, sym, ap, ◌∙◌, subst, arith}
+use Rattle.std.specs.List.{AllByRecursion}
 use Rattle.gum_messages.specs.declared.member.Member.{Member}
 use Rattle.gum_messages.specs.declared.view.View.{View}
 use Rattle.gum_messages.specs.Members.{is_locker}
@@ -23,7 +24,7 @@ use Rattle.cluster_rules.specs.Nodes.{NodeState, Out, Replica, done_of, has_stat
 use Rattle.cluster_rules.specs.Updates.{applied}
 use Rattle.cluster_rules.specs.Joins.{follows, gathers, joined, known_done, on_need, on_offer, on_piece, piece, says_ready, sends_piece, shows, takes_state, with_replica}
 use Rattle.cluster_rules.specs.Worlds.{World, absorb}
-use Rattle.cluster_laws.proofs.Inv.{AckOk, Has, Invariant, MemberOk, MsgOk, NodeOk, Pooled, WasReady, at_head, state_bytes, waits}
+use Rattle.cluster_laws.proofs.Inv.{AckOk, Fitting, Has, Invariant, MemberOk, MsgOk, NodeOk, Pooled, WasReady, at_head, state_bytes, waits}
 use Rattle.cluster_laws.proofs.Stable.{Grown, grown_refl}
 use Rattle.cluster_laws.proofs.Moves.{quiet_points, move_keeps, moved, node_in, none_acked, one_told, reached_self, self_node, stay_keeps, stay_sends, told}
 use Rattle.cluster_laws.proofs.Applying.{and_true, done_at, next_outcome, eq_true, fold_next, locker_not, next_replica, not_true, replica_next, state_of}
@@ -65,6 +66,11 @@ offered_split P s count last done none again all_ next far =
   where
     eq_not : (a b : ℕ) → nat_eq a b ≡ false → a ≢ b
     eq_not a b e = grind arith
+
+pub all_take : {A : Type 0} (P : A → Type 0) (k : ℕ) (l : List A) → AllByRecursion P l → AllByRecursion P (take k l)
+all_take P zero l h = tt
+all_take P (suc k) [] h = tt
+all_take P (suc k) (a ∷ l) h = (h.0, all_take P k l h.1)
 
 pub take_length : {A : Type 0} (k : ℕ) (l : List A) → take k l ≡ take (length (take k l)) l
 take_length zero l = refl
@@ -288,12 +294,12 @@ module _ {M : Machine} where
       ))))
       (λ g. stay_keeps w n x j at))
 
-  pub whole_keeps : IsMachine M → (w : World M) (n : ℕ) (x : NodeState M) (o : Offering) (bs : List ℕ) → Invariant w → w.nodes n ≡ Some x → x.join.view.number ≢ 0 → joining.is_ready x.join ≡ false → x.offer ≡ Some o → bs ≡ state_bytes w o.count → Invariant (absorb n (takes_state x bs (record x.join { stage = stage.Taking })) w)
-  whole_keeps law w n x o bs j at nz nr of eq =
+  pub whole_keeps : IsMachine M → (w : World M) (n : ℕ) (x : NodeState M) (o : Offering) (bs : List ℕ) → Invariant w → Fitting w → w.nodes n ≡ Some x → x.join.view.number ≢ 0 → joining.is_ready x.join ≡ false → x.offer ≡ Some o → bs ≡ state_bytes w o.count → Invariant (absorb n (takes_state x bs (record x.join { stage = stage.Taking })) w)
+  whole_keeps law w n x o bs j fi at nz nr of eq =
       let h : NodeOk w n x = j.nodes n x at in
       let p = h.pull o of in
       let g : M.Registry = registry_at M w.log.cap w.log.order o.count in
-      let dec : M.decode o.cap bs ≡ Some g = (λ i. M.decode (p.2 i) (eq i)) ∙ law.reads_back w.log.cap (take o.count w.log.order) in
+      let dec : M.decode o.cap bs ≡ Some g = (λ i. M.decode (p.2 i) (eq i)) ∙ law.reads_back w.log.cap (take o.count w.log.order) fi.log.is_cap (all_take M.Fits o.count w.log.order fi.log.records) in
       let s : Replica M = record { registry = g; done = o.count } in
       let y : NodeState M = joined (with_replica x g o.count) o.count o.last (record x.join { stage = stage.Ready }) in
       let keeps : Invariant (absorb n (says_ready y) w) = says_keeps w n x s o.last x.outcome j at (record { unready = nr; view = nz; counted = p.1; reg = refl; last_at = p.3; known = far_known w n x o.count j at nz p.1 (h.pulling o of) }) p.4 y refl in
@@ -313,8 +319,8 @@ module _ {M : Machine} where
         ]
       ]) w)) (sym of) two
 
-  pub on_piece_keeps : IsMachine M → (w : World M) (n : ℕ) (x : NodeState M) (from total offset : ℕ) (bytes : List ℕ) → Invariant w → w.nodes n ≡ Some x → x.join.view.number ≢ 0 → MsgOk w x.join.view from n (Piece total offset bytes) → Invariant (absorb n (on_piece x total offset bytes) w)
-  on_piece_keeps law w n x from total offset bytes j at nz ok =
+  pub on_piece_keeps : IsMachine M → (w : World M) (n : ℕ) (x : NodeState M) (from total offset : ℕ) (bytes : List ℕ) → Invariant w → Fitting w → w.nodes n ≡ Some x → x.join.view.number ≢ 0 → MsgOk w x.join.view from n (Piece total offset bytes) → Invariant (absorb n (on_piece x total offset bytes) w)
+  on_piece_keeps law w n x from total offset bytes j fi at nz ok =
       let h : NodeOk w n x = j.nodes n x at in
       let P : ReconcileState × Step → Type 0 = λ r. Invariant (absorb n (gathers x bytes r) w) in
       let count_is : (o : Offering) → w.log.count x.join.view.number ≡ Some o.count → ok.0 ≡ o.count = λ o e. let q : Some ok.0 ≡ Some o.count = sym ok.1 ∙ e in cc in
@@ -334,4 +340,4 @@ module _ {M : Machine} where
       let q = h.pulled offset e in
       let ct = (h.pull q.0 q.1).1 in
       let all : take (offset + length bytes) (state_bytes w q.0.count) ≡ state_bytes w q.0.count = take_all (offset + length bytes) (state_bytes w q.0.count) (omega (arith, ok.2, ap (λ (c : ℕ). length (state_bytes w c)) (count_is q.0 ct))) in
-      whole_keeps law w n x q.0 (x.bytes ++ bytes) j at nz nr q.1 (more q.0 ct q.2 ∙ all))
+      whole_keeps law w n x q.0 (x.bytes ++ bytes) j fi at nz nr q.1 (more q.0 ct q.2 ∙ all))

@@ -1,5 +1,5 @@
 -- The update order only grows, by a record at a time, and a run goes on from where it stands.
-use Rattle.std.proofs.Common.{◌≡◌, ◌⊎◌, inl, inr, ⊎_elim, ℕ, ◌+◌, ◌≤◌, Bool, true, false, ◌&&◌, List, [], ◌∷◌, ◌++◌, length, Option, Some, None, nat_lt, if◌then◌else◌, refl, sym, ap, ◌∙◌, subst, arith, append_assoc}
+use Rattle.std.proofs.Common.{◌≡◌, ◌⊎◌, inl, inr, ⊎_elim, ℕ, ◌+◌, ◌≤◌, ◌^◌, Bool, true, false, ◌&&◌, List, [], ◌∷◌, ◌++◌, length, Option, Some, None, nat_lt, if◌then◌else◌, refl, sym, ap, ◌∙◌, subst, arith, append_assoc}
 use Rattle.gum_messages.specs.declared.view.View.{View}
 use Rattle.gum_messages.specs.Members.{is_locker}
 use Rattle.gum_messages.specs.Places.{at_place}
@@ -17,7 +17,7 @@ use Rattle.cluster_rules.specs.Receiving.{checkpoint, clock, receive, tick}
 use Rattle.cluster_rules.specs.Worlds.{Checkpoint, Clock, Declare, Deliver, Die, DieInDeliver, DieInInstall, Event, Install, Log, Opening, Read, Recovered, Refused, Start, Submit, Tick, World, absorb, append, claimed, deliver, die_in_deliver, die_in_install, found_log, happens, install, leave, logs, may_declare, noted, opening, opens_log, put, raise, reads, run, stopped, with_log, written}
 use Rattle.std.proofs.lemmas.List.{append-nil, take-append-le}
 use Rattle.cluster_laws.proofs.Growth.{length_snoc}
-use Rattle.cluster_laws.proofs.Theorem.{at_keeps}
+use Rattle.cluster_laws.proofs.Events.{at_keeps}
 
 -- an order after an event
 abbrev pub Grew : List Entry → List Entry → Type 0
@@ -81,10 +81,10 @@ module _ {M : Machine} where
   happens_step w (Deliver k answer) = option_cases (λ (u : World M). Extends w u) (at_place w.pool k) w (λ p. deliver w p answer) (λ none. log_same w.log)
       (λ p some. option_cases (λ (u : World M). Extends w u) (w.nodes p.to) w (λ x. absorb p.to (receive x p w.log.held answer).out (logs (number_of x) (receive x p w.log.held answer) w)) (λ none. log_same w.log)
       (λ x at. leave_grew w.log (append (receive x p w.log.held answer).appended (number_of x) w.log) (receive x p w.log.held answer).doubtful (number_of x) (append_grew w.log (receive x p w.log.held answer).appended (number_of x))))
-  happens_step w (Submit n u) = at_keeps (λ (v : World M). Extends w v) w n (λ x. absorb n (submit x u) (noted n x u w)) (log_same w.log) (λ x at. let g = noted_step w n x u in record { order = g.order; cap = g.cap })
+  happens_step w (Submit n u valid) = at_keeps (λ (v : World M). Extends w v) w n (λ x. absorb n (submit x u) (noted n x u w)) (log_same w.log) (λ x at. let g = noted_step w n x u in record { order = g.order; cap = g.cap })
   happens_step w (Read n) = at_keeps (λ (v : World M). Extends w v) w n (λ x. if joining.is_open x.join then absorb n (nothing x) (reads n x w) else w) (log_same w.log) (λ x at. if_cases (λ (v : World M). Extends w v) (joining.is_open x.join) _ _ (λ op. log_same w.log) (λ op. log_same w.log))
   happens_step w (Tick n) = at_keeps (λ (v : World M). Extends w v) w n (λ x. absorb n (tick x) w) (log_same w.log) (λ x at. log_same w.log)
-  happens_step w (Clock n stamp) = at_keeps (λ (v : World M). Extends w v) w n (λ x. absorb n (clock x stamp) w) (log_same w.log) (λ x at. log_same w.log)
+  happens_step w (Clock n stamp) = if_cases (λ (v : World M). Extends w v) (nat_lt stamp (2 ^ 64)) _ _ (λ g. at_keeps (λ (v : World M). Extends w v) w n (λ x. absorb n (clock x stamp) w) (log_same w.log) (λ x at. log_same w.log)) (λ g. log_same w.log)
   happens_step w (Checkpoint n good) = at_keeps (λ (v : World M). Extends w v) w n (λ x. absorb n (checkpoint x w.log.held good) w) (log_same w.log) (λ x at. log_same w.log)
   happens_step w (Die n) = log_same w.log
   happens_step w (DieInDeliver k answer) = option_cases (λ (u : World M). Extends w u) (at_place w.pool k) w (λ p. die_in_deliver w p answer) (λ none. log_same w.log)

@@ -1,5 +1,5 @@
 -- Every run is safe, and keeps what was acknowledged.
-use Rattle.std.proofs.Common.{◌≡◌, ◌≢◌, ℕ, ◌+◌, ◌-◌, ◌<◌, ◌≤◌, true, List, [], ◌∷◌, length, Option, Some, None, nat_eq, nat_lt, if◌then◌else◌, slice_get, refl, sym, ap, ◌∙◌, subst, arith}
+use Rattle.std.proofs.Common.{◌≡◌, ◌≢◌, ℕ, ◌+◌, ◌-◌, ◌<◌, ◌≤◌, ◌^◌, true, List, [], ◌∷◌, length, Option, Some, None, nat_lt, if◌then◌else◌, refl, sym, ap, ◌∙◌, subst, arith}
 use Rattle.gum_messages.specs.declared.view.View.{View}
 use Rattle.gum_messages.specs.Members.{inc_of}
 use Rattle.gum_messages.specs.Places.{at_place}
@@ -13,16 +13,15 @@ use Rattle.cluster_rules.specs.Machines.{Machine, IsMachine}
 use Rattle.gum_messages.specs.declared.body.Body.{Body}
 use Rattle.gum_messages.specs.declared.body.Body.TheVariants.{Ask, Granted, Apply, Applied, Release, Offer, Need, Piece, Ready, OpenView}
 use Rattle.gum_messages.specs.Messages.{Sent}
-use Rattle.cluster_rules.specs.Nodes.{NodeState, done_of, fresh, members_of, nothing, number_of}
+use Rattle.cluster_rules.specs.Nodes.{NodeState, done_of, fresh, nothing, number_of}
 use Rattle.cluster_rules.specs.Updates.{Answer, Logged, may_submit, submit}
 use Rattle.cluster_rules.specs.Receiving.{checkpoint, clock, receive, tick}
 use Rattle.cluster_rules.specs.Receiving as receiving
-use Rattle.cluster_rules.specs.Worlds.{Checkpoint, Clock, Declare, Deliver, Die, DieInDeliver, DieInInstall, Event, Install, Read, Start, Submit, Tick, World, absorb, at_node, deliver, die_in_deliver, die_in_install, happens, install, leave, logs, may_declare, noted, opening, put, reads, run, stopped, with_log, written}
+use Rattle.cluster_rules.specs.Worlds.{Checkpoint, Clock, Declare, Deliver, Die, DieInDeliver, DieInInstall, Event, Install, Read, Start, Submit, Tick, World, absorb, deliver, die_in_deliver, die_in_install, happens, install, leave, logs, may_declare, noted, opening, put, reads, run, stopped, with_log, written}
 use Rattle.cluster_rules.specs.Promises.{Kept, Safe, Steady}
-use Rattle.cluster_laws.proofs.Inv.{AckOk, AllReached, Invariant, MsgOk, NodeOk, Pooled}
+use Rattle.cluster_laws.proofs.Inv.{AckOk, AllReached, Fitting, Invariant, MsgOk, NodeOk, Pooled}
 use Rattle.cluster_laws.proofs.Moves.{none_acked, none_told, stay_keeps}
-use Rattle.cluster_laws.proofs.Applying.{and_true, done_at, eq_true, lt_true, state_of}
-use Rattle.gum_messages.proofs.Placing.{at_place-above}
+use Rattle.cluster_laws.proofs.Applying.{done_at, state_of}
 use Rattle.cluster_laws.proofs.HeadRules.{on_applied_keeps, on_granted_keeps, open_is_ready, open_reached, submit_keeps}
 use Rattle.cluster_laws.proofs.Applying.{on_apply_keeps}
 use Rattle.cluster_laws.proofs.Locking.{on_release_keeps}
@@ -33,25 +32,23 @@ use Rattle.cluster_laws.proofs.Stopping.{stop_keeps}
 use Rattle.cluster_laws.proofs.Installing.{die_in_install_keeps, install_keeps}
 use Rattle.cluster_laws.proofs.Starting.{declare_keeps, start_keeps, started_world}
 use Rattle.cluster_laws.proofs.Ticking.{checkpoint_keeps, clock_keeps, read_keeps, tick_keeps}
+use Rattle.cluster_laws.proofs.Events.{at_get, at_keeps, counted_ok}
+use Rattle.cluster_laws.proofs.Fitting.{happens_fits, opening_fits}
 use Rattle.cluster_laws.proofs.Lockers.{Lockers, checkpoint_stays, install_lockers, lockers_absorb, lockers_stay, receive_stays, stays_same, submit_stays}
-
--- what stands at a place stands in the list
-pub at_get : {A : Type 0} (l : List A) (k : ℕ) (a : A) → at_place l k ≡ Some a → slice_get l (k - 1) ≡ Some a
-at_get l k a e = sym (at_place-above l k ((place_within l k a e).0)) ∙ e
 
 module _ {M : Machine} where
   -- A message comes
-  hears_keeps : IsMachine M → (w : World M) (n : ℕ) (x : NodeState M) (from : ℕ) (b : Body) (answer : Answer) → Invariant w → w.nodes n ≡ Some x → 0 < inc_of x.join.view.members from → x.join.view.number ≢ 0 → (joining.locks x.join ≡ true → joining.is_ready x.join ≡ true) → MsgOk w x.join.view from n b → Keeps w n x (receiving.hears x from b w.log.held answer)
-  hears_keeps law w n x from (Ask q u) answer j at pos nz lr ok = on_ask_keeps w n x from q u answer j at pos ok
-  hears_keeps law w n x from (Granted r) answer j at pos nz lr ok = on_granted_keeps w n x from r j at nz ok
-  hears_keeps law w n x from (Apply r) answer j at pos nz lr ok = on_apply_keeps w n x from r j at ok
-  hears_keeps law w n x from (Applied k) answer j at pos nz lr ok = on_applied_keeps w n x from k j at ok
-  hears_keeps law w n x from (Release q) answer j at pos nz lr ok = on_release_keeps w n x from q j at pos ok
-  hears_keeps law w n x from (Offer c cap last) answer j at pos nz lr ok = on_offer_keeps w n x from c cap last j at nz ok
-  hears_keeps law w n x from (Need offset) answer j at pos nz lr ok = on_need_keeps w n x from offset j at nz lr
-  hears_keeps law w n x from (Piece total offset bytes) answer j at pos nz lr ok = on_piece_keeps law w n x from total offset bytes j at nz ok
-  hears_keeps law w n x from Ready answer j at pos nz lr ok = on_ready_keeps w n x from j at nz ok
-  hears_keeps law w n x from OpenView answer j at pos nz lr ok = on_open_view_keeps w n x from j at ok
+  hears_keeps : IsMachine M → (w : World M) (n : ℕ) (x : NodeState M) (from : ℕ) (b : Body) (answer : Answer) → Invariant w → Fitting w → w.nodes n ≡ Some x → 0 < inc_of x.join.view.members from → x.join.view.number ≢ 0 → (joining.locks x.join ≡ true → joining.is_ready x.join ≡ true) → MsgOk w x.join.view from n b → Keeps w n x (receiving.hears x from b w.log.held answer)
+  hears_keeps law w n x from (Ask q u) answer j fi at pos nz lr ok = on_ask_keeps w n x from q u answer j at pos ok
+  hears_keeps law w n x from (Granted r) answer j fi at pos nz lr ok = on_granted_keeps w n x from r j at nz ok
+  hears_keeps law w n x from (Apply r) answer j fi at pos nz lr ok = on_apply_keeps w n x from r j at ok
+  hears_keeps law w n x from (Applied k) answer j fi at pos nz lr ok = on_applied_keeps w n x from k j at ok
+  hears_keeps law w n x from (Release q) answer j fi at pos nz lr ok = on_release_keeps w n x from q j at pos ok
+  hears_keeps law w n x from (Offer c cap last) answer j fi at pos nz lr ok = on_offer_keeps w n x from c cap last j at nz ok
+  hears_keeps law w n x from (Need offset) answer j fi at pos nz lr ok = on_need_keeps w n x from offset j at nz lr
+  hears_keeps law w n x from (Piece total offset bytes) answer j fi at pos nz lr ok = on_piece_keeps law w n x from total offset bytes j fi at nz ok
+  hears_keeps law w n x from Ready answer j fi at pos nz lr ok = on_ready_keeps w n x from j at nz ok
+  hears_keeps law w n x from OpenView answer j fi at pos nz lr ok = on_open_view_keeps w n x from j at ok
 
   hears_dies : (w : World M) (n : ℕ) (x : NodeState M) (from : ℕ) (b : Body) (answer : Answer) → Invariant w → w.nodes n ≡ Some x → 0 < inc_of x.join.view.members from → MsgOk w x.join.view from n b → Dies w n x (receiving.hears x from b w.log.held answer)
   hears_dies w n x from (Ask q u) answer j at pos ok = ask_dies w n x from q u answer j at pos ok
@@ -65,23 +62,10 @@ module _ {M : Machine} where
   hears_dies w n x from Ready answer j at pos ok = stop_keeps w n j
   hears_dies w n x from OpenView answer j at pos ok = stop_keeps w n j
 
-  -- a message that counts is one of the node's own view
-  pub counted_ok : (w : World M) (n : ℕ) (x : NodeState M) (p : Sent) → Invariant w → w.nodes n ≡ Some x → Pooled w p → p.to ≡ n → receiving.counts x p ≡ true → (0 < inc_of x.join.view.members p.from) × (x.join.view.number ≢ 0) × MsgOk w x.join.view p.from n p.body
-  counted_ok w n x p j at po to g =
-      let h : NodeOk w n x = j.nodes n x at in
-      let a = and_true (nat_eq p.view (number_of x)) (nat_lt 0 (inc_of (members_of x) p.from)) g in
-      let num : p.view ≡ x.join.view.number = eq_true p.view x.join.view.number a.0 in
-      let pos : 0 < inc_of x.join.view.members p.from = lt_true 0 (inc_of x.join.view.members p.from) a.1 in
-      let nz : x.join.view.number ≢ 0 = h.peopled p.from pos in
-      let q : Some po.view ≡ Some x.join.view = sym po.declared ∙ ap (view_in w.chain) num ∙ (h.view nz).0 in
-      let same : po.view ≡ x.join.view = cc in
-      let ok : MsgOk w x.join.view p.from p.to p.body = subst (λ (v : View). MsgOk w v p.from p.to p.body) same po.ok in
-      (pos, nz, subst (λ (t : ℕ). MsgOk w x.join.view p.from t p.body) to ok)
-
-  pub receive_keeps : IsMachine M → (w : World M) (n : ℕ) (x : NodeState M) (p : Sent) (answer : Answer) → Invariant w → Lockers w → w.nodes n ≡ Some x → Pooled w p → p.to ≡ n → Keeps w n x (receive x p w.log.held answer)
-  receive_keeps law w n x p answer j lo at po to =
+  pub receive_keeps : IsMachine M → (w : World M) (n : ℕ) (x : NodeState M) (p : Sent) (answer : Answer) → Invariant w → Fitting w → Lockers w → w.nodes n ≡ Some x → Pooled w p → p.to ≡ n → Keeps w n x (receive x p w.log.held answer)
+  receive_keeps law w n x p answer j fi lo at po to =
       if_cases (λ (d : Logged M). Keeps w n x d) (receiving.counts x p) _ _
-      (λ g. let c = counted_ok w n x p j at po to g in hears_keeps law w n x p.from p.body answer j at c.0 c.1 (λ l. lo n x at l c.1) c.2)
+      (λ g. let c = counted_ok w n x p j at po to g in hears_keeps law w n x p.from p.body answer j fi at c.0 c.1 (λ l. lo n x at l c.1) c.2)
       (λ g. stay_keeps w n x j at)
 
   pub receive_dies : (w : World M) (n : ℕ) (x : NodeState M) (p : Sent) (answer : Answer) → Invariant w → w.nodes n ≡ Some x → Pooled w p → p.to ≡ n → Dies w n x (receive x p w.log.held answer)
@@ -91,30 +75,27 @@ module _ {M : Machine} where
       (λ g. stop_keeps w n j)
 
   -- Each event
-  pub at_keeps : (P : World M → Type 0) (w : World M) (n : ℕ) (f : NodeState M → World M) → P w → ((x : NodeState M) → w.nodes n ≡ Some x → P (f x)) → P (at_node w n f)
-  at_keeps P w n f h g = option_cases P (w.nodes n) w f (λ none. h) g
-
   view_at_number : (w : World M) (v : ℕ) (u : View) → Invariant w → view_in w.chain v ≡ Some u → view_in w.chain u.number ≡ Some u
   view_at_number w v u j e = ap (view_in w.chain) (j.chain.chain.numbered v u e) ∙ e
 
-  pub happens_keeps : IsMachine M → (w : World M) (e : Event) → Invariant w → Lockers w → Invariant (happens w e)
-  happens_keeps law w (Start n) j lo = option_cases (λ (u : World M). Invariant u) (w.nodes n) (started_world w n) (λ x. w) (λ none. start_keeps w n j none) (λ x some. j)
-  happens_keeps law w (Declare v) j lo = if_cases (λ (u : World M). Invariant u) (may_declare w v) _ _ (λ g. declare_keeps w v j g) (λ g. j)
-  happens_keeps law w (Install n v opening) j lo = at_keeps (λ (u : World M). Invariant u) w n (λ x. elim (view_in w.chain v) [ None ↦ w | Some u ↦ install w n x u opening ]) j
+  pub happens_keeps : IsMachine M → (w : World M) (e : Event) → Invariant w → Fitting w → Lockers w → Invariant (happens w e)
+  happens_keeps law w (Start n) j fi lo = option_cases (λ (u : World M). Invariant u) (w.nodes n) (started_world w n) (λ x. w) (λ none. start_keeps w n j none) (λ x some. j)
+  happens_keeps law w (Declare v) j fi lo = if_cases (λ (u : World M). Invariant u) (may_declare w v) _ _ (λ g. declare_keeps w v j g) (λ g. j)
+  happens_keeps law w (Install n v opening) j fi lo = at_keeps (λ (u : World M). Invariant u) w n (λ x. elim (view_in w.chain v) [ None ↦ w | Some u ↦ install w n x u opening ]) j
       (λ x at. option_cases (λ (u : World M). Invariant u) (view_in w.chain v) w (λ u. install w n x u opening) (λ none. j) (λ u some. install_keeps law w n x u opening j at (view_at_number w v u j some)))
-  happens_keeps law w (Deliver k answer) j lo = option_cases (λ (u : World M). Invariant u) (at_place w.pool k) w (λ p. deliver w p answer) (λ none. j)
+  happens_keeps law w (Deliver k answer) j fi lo = option_cases (λ (u : World M). Invariant u) (at_place w.pool k) w (λ p. deliver w p answer) (λ none. j)
       (λ p some. option_cases (λ (u : World M). Invariant u) (w.nodes p.to) w (λ x. absorb p.to (receive x p w.log.held answer).out (logs (number_of x) (receive x p w.log.held answer) w)) (λ none. j)
-      (λ x at. receive_keeps law w p.to x p answer j lo at (j.pool (k - 1) p (at_get w.pool k p some)) refl))
-  happens_keeps law w (Submit n u) j lo = at_keeps (λ (v : World M). Invariant v) w n (λ x. absorb n (submit x u) (noted n x u w)) j (λ x at. submit_keeps w n x u j at)
-  happens_keeps law w (Read n) j lo = at_keeps (λ (v : World M). Invariant v) w n (λ x. if joining.is_open x.join then absorb n (nothing x) (reads n x w) else w) j (λ x at. if_cases (λ (v : World M). Invariant v) (joining.is_open x.join) _ _ (λ op. read_keeps w n x j at op) (λ op. j))
-  happens_keeps law w (Tick n) j lo = at_keeps (λ (v : World M). Invariant v) w n (λ x. absorb n (tick x) w) j (λ x at. tick_keeps law w n x j at (lo n x at))
-  happens_keeps law w (Clock n stamp) j lo = at_keeps (λ (v : World M). Invariant v) w n (λ x. absorb n (clock x stamp) w) j (λ x at. clock_keeps w n x stamp j at)
-  happens_keeps law w (Checkpoint n good) j lo = at_keeps (λ (v : World M). Invariant v) w n (λ x. absorb n (checkpoint x w.log.held good) w) j (λ x at. checkpoint_keeps w n x good j at)
-  happens_keeps law w (Die n) j lo = stop_keeps w n j
-  happens_keeps law w (DieInDeliver k answer) j lo = option_cases (λ (u : World M). Invariant u) (at_place w.pool k) w (λ p. die_in_deliver w p answer) (λ none. j)
+      (λ x at. receive_keeps law w p.to x p answer j fi lo at (j.pool (k - 1) p (at_get w.pool k p some)) refl))
+  happens_keeps law w (Submit n u valid) j fi lo = at_keeps (λ (v : World M). Invariant v) w n (λ x. absorb n (submit x u) (noted n x u w)) j (λ x at. submit_keeps w n x u j at)
+  happens_keeps law w (Read n) j fi lo = at_keeps (λ (v : World M). Invariant v) w n (λ x. if joining.is_open x.join then absorb n (nothing x) (reads n x w) else w) j (λ x at. if_cases (λ (v : World M). Invariant v) (joining.is_open x.join) _ _ (λ op. read_keeps w n x j at op) (λ op. j))
+  happens_keeps law w (Tick n) j fi lo = at_keeps (λ (v : World M). Invariant v) w n (λ x. absorb n (tick x) w) j (λ x at. tick_keeps law w n x j at (lo n x at))
+  happens_keeps law w (Clock n stamp) j fi lo = if_cases (λ (v : World M). Invariant v) (nat_lt stamp (2 ^ 64)) _ _ (λ g. at_keeps (λ (v : World M). Invariant v) w n (λ x. absorb n (clock x stamp) w) j (λ x at. clock_keeps w n x stamp j at)) (λ g. j)
+  happens_keeps law w (Checkpoint n good) j fi lo = at_keeps (λ (v : World M). Invariant v) w n (λ x. absorb n (checkpoint x w.log.held good) w) j (λ x at. checkpoint_keeps w n x good j at)
+  happens_keeps law w (Die n) j fi lo = stop_keeps w n j
+  happens_keeps law w (DieInDeliver k answer) j fi lo = option_cases (λ (u : World M). Invariant u) (at_place w.pool k) w (λ p. die_in_deliver w p answer) (λ none. j)
       (λ p some. option_cases (λ (u : World M). Invariant u) (w.nodes p.to) w (λ x. stopped p.to (with_log (leave (written (receive x p w.log.held answer)) (number_of x) w.log) w)) (λ none. j)
       (λ x at. receive_dies w p.to x p answer j at (j.pool (k - 1) p (at_get w.pool k p some)) refl))
-  happens_keeps law w (DieInInstall n v raised) j lo = at_keeps (λ (u : World M). Invariant u) w n (λ x. elim (view_in w.chain v) [ None ↦ w | Some u ↦ die_in_install w n x u raised ]) j
+  happens_keeps law w (DieInInstall n v raised) j fi lo = at_keeps (λ (u : World M). Invariant u) w n (λ x. elim (view_in w.chain v) [ None ↦ w | Some u ↦ die_in_install w n x u raised ]) j
       (λ x at. option_cases (λ (u : World M). Invariant u) (view_in w.chain v) w (λ u. die_in_install w n x u raised) (λ none. j) (λ u some. die_in_install_keeps w n x u raised j at (view_at_number w v u j some)))
 
   -- the lockers
@@ -134,10 +115,11 @@ module _ {M : Machine} where
   lockers_keep w (Deliver k answer) lo = option_cases (λ (u : World M). Lockers u) (at_place w.pool k) w (λ p. deliver w p answer) (λ none. lo)
       (λ p some. option_cases (λ (u : World M). Lockers u) (w.nodes p.to) w (λ x. absorb p.to (receive x p w.log.held answer).out (logs (number_of x) (receive x p w.log.held answer) w)) (λ none. lo)
       (λ x at. lockers_stay w (absorb p.to (receive x p w.log.held answer).out (logs (number_of x) (receive x p w.log.held answer) w)) p.to x (receive x p w.log.held answer).out.node lo at refl (receive_stays x p w.log.held answer)))
-  lockers_keep w (Submit n u) lo = at_keeps (λ (v : World M). Lockers v) w n (λ x. absorb n (submit x u) (noted n x u w)) lo (λ x at. lockers_stay w (absorb n (submit x u) (noted n x u w)) n x (submit x u).node lo at (ap (λ (f : ℕ → Option (NodeState M)). put f n (submit x u).node) (noted_nodes w n x u)) (submit_stays x u))
-  lockers_keep w (Read n) lo = at_keeps (λ (v : World M). Lockers v) w n (λ x. if joining.is_open x.join then absorb n (nothing x) (reads n x w) else w) lo (λ x at. if_cases (λ (v : World M). Lockers v) (joining.is_open x.join) _ _ (λ op. lockers_stay w (absorb n (nothing x) (reads n x w)) n x (Some x) lo at refl (stays_same x x refl)) (λ op. lo))
-  lockers_keep w (Tick n) lo = at_keeps (λ (v : World M). Lockers v) w n (λ x. absorb n (tick x) w) lo (λ x at. lockers_stay w (absorb n (tick x) w) n x (Some x) lo at refl (stays_same x x refl))
-  lockers_keep w (Clock n stamp) lo = at_keeps (λ (v : World M). Lockers v) w n (λ x. absorb n (clock x stamp) w) lo (λ x at. lockers_stay w (absorb n (clock x stamp) w) n x (clock x stamp).node lo at refl (stays_same x (record x { stamp = stamp }) refl))
+  lockers_keep w (Submit n u valid) lo = at_keeps (λ (v : World M). Lockers v) w n (λ x. absorb n (submit x u) (noted n x u w)) lo (λ x at. lockers_stay w (absorb n (submit x u) (noted n x u w)) n x (submit x u).node lo at (ap (λ (f : ℕ → Option (NodeState M)). put f n (submit x u).node) (noted_nodes w n x u)) (submit_stays x u))
+  lockers_keep w (Read n) lo = at_keeps (λ (v : World M). Lockers v) w n (λ x. if joining.is_open x.join then absorb n (nothing x) (reads n x w) else w) lo (λ x at. if_cases (λ (v : World M). Lockers v) (joining.is_open x.join) _ _ (λ op. lockers_stay w (absorb n (nothing x) (reads n x w)) n x (Some x) lo at refl (stays_same x x refl refl)) (λ op. lo))
+  lockers_keep w (Tick n) lo = at_keeps (λ (v : World M). Lockers v) w n (λ x. absorb n (tick x) w) lo (λ x at. lockers_stay w (absorb n (tick x) w) n x (Some x) lo at refl (stays_same x x refl refl))
+  lockers_keep w (Clock n stamp) lo = if_cases (λ (v : World M). Lockers v) (nat_lt stamp (2 ^ 64)) _ _ (λ g. at_keeps (λ (v : World M). Lockers v) w n (λ x. absorb n (clock x stamp) w) lo
+      (λ x at. lockers_absorb w (absorb n (clock x stamp) w) n (Some (record x { stamp = stamp })) lo refl (λ y q. let e : record x { stamp = stamp } ≡ y = cc in subst (λ (t : NodeState M). joining.locks t.join ≡ true → t.join.view.number ≢ 0 → joining.is_ready t.join ≡ true) e (lo n x at)))) (λ g. lo)
   lockers_keep w (Checkpoint n good) lo = at_keeps (λ (v : World M). Lockers v) w n (λ x. absorb n (checkpoint x w.log.held good) w) lo (λ x at. lockers_stay w (absorb n (checkpoint x w.log.held good) w) n x (checkpoint x w.log.held good).node lo at refl (checkpoint_stays x w.log.held good))
   lockers_keep w (Die n) lo = fewer_lockers w (stopped n w) n lo refl
   lockers_keep w (DieInDeliver k answer) lo = option_cases (λ (u : World M). Lockers u) (at_place w.pool k) w (λ p. die_in_deliver w p answer) (λ none. lo)
@@ -193,12 +175,28 @@ module _ (M : Machine) where
       none_in : {A : Type 0} (k : ℕ) (a : A) → at_place [] k ≡ Some a → ⊥
       none_in k a e = let h = place_within [] k a e in omega (arith, h.0, h.1)
 
-  pub run_keeps : IsMachine M → (es : List Event) (w : World M) → Invariant w → Lockers w → Invariant (run es w)
-  run_keeps law [] w j lo = j
-  run_keeps law (e ∷ es) w j lo = run_keeps law es (happens w e) (happens_keeps law w e j lo) (lockers_keep w e lo)
+  -- what every world of a run has
+  pub record Holds (w : World M) : Type 0 where
+    pub invariant : Invariant w
+    pub fitting : Fitting w
+    pub lockers : Lockers w
 
-  pub safe : (w : World M) → Invariant w → Safe w
-  safe w j = record {
+  pub opening_holds : (cap : ℕ) → M.IsCap cap → Holds (opening M cap)
+  opening_holds cap is_cap = record { invariant = opening_ok cap; fitting = opening_fits M cap is_cap; lockers = λ n x e. absurd (cc) }
+
+  pub run_keeps : IsMachine M → (es : List Event) (w : World M) → Holds w → Holds (run es w)
+  run_keeps law [] w h = h
+  run_keeps law (e ∷ es) w h = run_keeps law es (happens w e) (record {
+    invariant = happens_keeps law w e h.invariant h.fitting h.lockers;
+    fitting = happens_fits law w e h.invariant h.fitting;
+    lockers = lockers_keep w e h.lockers;
+  })
+
+  pub run_holds : IsMachine M → (cap : ℕ) (es : List Event) → M.IsCap cap → Holds (run es (opening M cap))
+  run_holds law cap es is_cap = run_keeps law es (opening M cap) (opening_holds cap is_cap)
+
+  pub safe : (w : World M) → Invariant w → Fitting w → Safe w
+  safe w j fi = record {
     within = λ n x r at e. let h : NodeOk w n x = j.nodes n x at in omega (arith, h.within, done_at x r e);
     registry = λ n x r at e. (j.nodes n x at).registry r e;
     places = j.log.places;
@@ -207,7 +205,9 @@ module _ (M : Machine) where
         let pb : e.place ≡ b = j.log.places b e at_b in
         sym pa ∙ j.log.ids d e (record { at = ap (at_place w.log.order) pa ∙ at_a }) (record { at = ap (at_place w.log.order) pb ∙ at_b }) (λ i. (same i).node) (λ i. (same i).inc) (λ i. (same i).req) ∙ pb;
     updates = λ k e at. j.log.requested e (record { at = ap (at_place w.log.order) (j.log.places k e at) ∙ at });
+    fits = fi.log.records;
     next = λ e d. (j.log.doubt e d).0;
+    next_fits = fi.log.doubt;
     apart = λ d e k dt at same.
         let pe : e.place ≡ k = j.log.places k e at in
         let here : at_place w.log.order e.place ≡ Some e = ap (at_place w.log.order) pe ∙ at in
@@ -231,11 +231,11 @@ module _ (M : Machine) where
   steady w j = record { rises = λ a b p q ea eb le nd ic. j.steady (a - 1) (b - 1) p q (at_get w.points a p ea) (at_get w.points b q eb) (omega arith) nd ic }
 
   -- The theorem
-  pub all_safe : IsMachine M → (cap : ℕ) (es : List Event) → Safe (run es (opening M cap))
-  all_safe law cap es = safe (run es (opening M cap)) (run_keeps law es (opening M cap) (opening_ok cap) (λ n x e. absurd (cc)))
+  pub all_safe : IsMachine M → (cap : ℕ) (es : List Event) → M.IsCap cap → Safe (run es (opening M cap))
+  all_safe law cap es is_cap = let h = run_holds law cap es is_cap in safe (run es (opening M cap)) h.invariant h.fitting
 
-  pub all_kept : IsMachine M → (cap : ℕ) (es : List Event) → Kept (run es (opening M cap))
-  all_kept law cap es = kept (run es (opening M cap)) (run_keeps law es (opening M cap) (opening_ok cap) (λ n x e. absurd (cc)))
+  pub all_kept : IsMachine M → (cap : ℕ) (es : List Event) → M.IsCap cap → Kept (run es (opening M cap))
+  all_kept law cap es is_cap = kept (run es (opening M cap)) (run_holds law cap es is_cap).invariant
 
-  pub all_steady : IsMachine M → (cap : ℕ) (es : List Event) → Steady (run es (opening M cap))
-  all_steady law cap es = steady (run es (opening M cap)) (run_keeps law es (opening M cap) (opening_ok cap) (λ n x e. absurd (cc)))
+  pub all_steady : IsMachine M → (cap : ℕ) (es : List Event) → M.IsCap cap → Steady (run es (opening M cap))
+  all_steady law cap es is_cap = steady (run es (opening M cap)) (run_holds law cap es is_cap).invariant

@@ -1,6 +1,6 @@
-//! The protocol keeps its promises: after every list of events each registry is a prefix's of the one update order, and
-//! each acknowledged update stands in every later open view, and no incarnation answers at a point below an earlier one. The definitions are those of `cluster_rules`, the invariants
-//! and their proof stand in `proofs/`.
+//! The protocol keeps its promises: after every list of events each registry is a prefix's of the one update order, each
+//! acknowledged update stands in every later open view, and no incarnation answers at a point below an earlier one. The
+//! definitions are those of `cluster_rules`, the invariants and their proof stand in `proofs/`.
 #![tactic(auto)]
 
 ghost use Rattle.std.specs.Prelude.{◌≡◌, ◌++◌, ℕ, List};
@@ -9,7 +9,8 @@ ghost use Rattle.cluster_rules.specs.Promises.{Kept, Safe, Steady};
 ghost use Rattle.update_records.specs.Entry.{Entry};
 ghost use Rattle.cluster_rules.specs.Worlds.{Event, opening, run};
 
-/// What can be replicated: a deterministic state machine that reads back from its bytes.
+/// What can be replicated: a deterministic state machine that reads back from its bytes. The laws speak of logs of a
+/// capacity that the machine allows.
 pub trait Replicated {
     ghost machine: { Machine };
 
@@ -19,22 +20,22 @@ pub trait Replicated {
 /// Whatever messages are lost, repeated or reordered and wherever nodes die: every node's registry is the one that the
 /// first `done` records of the order make, each record stands at its place, and no request is logged twice.
 pub fn safe<R: Replicated>()
-    ensures { (cap : ℕ) (events : List Event) → Safe (run events (opening R.machine cap)) }
+    ensures { (cap : ℕ) (events : List Event) → R.machine.IsCap cap → Safe (run events (opening R.machine cap)) }
 {}
 
 /// Each acknowledged update stands in the order, and in every node that is open in the view of its acknowledgement or in
 /// a later one.
 pub fn kept<R: Replicated>()
-    ensures { (cap : ℕ) (events : List Event) → Kept (run events (opening R.machine cap)) }
+    ensures { (cap : ℕ) (events : List Event) → R.machine.IsCap cap → Kept (run events (opening R.machine cap)) }
 {}
 
 /// The points of the order at which one incarnation of a node answers never fall: neither those of its readers, nor the
 /// places of its acknowledged updates, nor the one behind the other.
 pub fn steady<R: Replicated>()
-    ensures { (cap : ℕ) (events : List Event) → Steady (run events (opening R.machine cap)) }
+    ensures { (cap : ℕ) (events : List Event) → R.machine.IsCap cap → Steady (run events (opening R.machine cap)) }
 {}
 
 /// The order only grows.
 pub fn grows<R: Replicated>()
-    ensures { (cap : ℕ) (es more : List Event) → (rest : List Entry) × ((run (es ++ more) (opening R.machine cap)).log.order ≡ (run es (opening R.machine cap)).log.order ++ rest) }
+    ensures { (cap : ℕ) (events more : List Event) → R.machine.IsCap cap → (rest : List Entry) × ((run (events ++ more) (opening R.machine cap)).log.order ≡ (run events (opening R.machine cap)).log.order ++ rest) }
 {}

@@ -1,8 +1,10 @@
 -- The rules, seen to run: what comes of some lists of events, by computation alone.
 use Rattle.std.proofs.Common.{◌≡◌, ℕ, ◌+◌, Bool, true, false, List, [], ◌∷◌, length, Option, Some, None, refl, sym}
+use Rattle.std.specs.Prelude.{⊤}
 use Rattle.gum_messages.specs.declared.member.Member.{Member}
 use Rattle.gum_messages.specs.declared.view.View.{View}
 use Rattle.update_records.specs.declared.update.Update.{Update}
+use Rattle.update_records.specs.Limits.{IsUpdate}
 use Rattle.view_reconcile.specs.Joining as joining
 use Rattle.update_records.specs.Entry.{Entry}
 use Rattle.cluster_rules.specs.Machines.{IsMachine, Machine, replay}
@@ -27,6 +29,8 @@ tally = record {
   apply = λ e r. ((r.0, r.1 + 1), r.1);
   encode = λ r. r.1 ∷ [];
   decode = λ cap bytes. elim bytes [ [] ↦ None | b ∷ bs ↦ Some (cap, b) ];
+  IsCap = λ cap. ⊤;
+  Fits = λ e. ⊤;
 }
 
 tally_cap : (order : List Entry) (r : ℕ × ℕ) → (replay tally order r).0 ≡ r.0
@@ -38,7 +42,8 @@ pub tally_is_machine : IsMachine tally
 tally_is_machine = record {
   begins = λ cap. refl;
   keeps = λ e r. refl;
-  reads_back = λ cap order. let same : (replay tally order (cap, 0)).0 ≡ cap = tally_cap order (cap, 0) in λ i. Some (sym same i, (replay tally order (cap, 0)).1);
+  reads_back = λ cap order is_cap fits. let same : (replay tally order (cap, 0)).0 ≡ cap = tally_cap order (cap, 0) in λ i. Some (sym same i, (replay tally order (cap, 0)).1);
+  fits = λ e above below stamp valid. tt;
 }
 
 abbrev begin : World tally
@@ -49,10 +54,10 @@ abbrev shown : Option (NodeState tally) → Option (Bool × (ℕ × ℕ))
 shown None = None
 shown (Some x) = Some (joining.is_open x.join, (x.join.view.number, done_of x))
 
-module _ (u : Update) where
+module _ (u : Update) (valid : IsUpdate u) where
   -- One member: it opens, submits, is granted its own lock, and acknowledges at once.
   abbrev one : List Event
-  one = Start 1 ∷ Declare (view 1 ((1, 1) ∷ [])) ∷ Install 1 1 (Recovered false) ∷ Submit 1 u ∷ Deliver 1 Written ∷ Deliver 2 Written ∷ Deliver 3 Written ∷ []
+  one = Start 1 ∷ Declare (view 1 ((1, 1) ∷ [])) ∷ Install 1 1 (Recovered false) ∷ Submit 1 u valid ∷ Deliver 1 Written ∷ Deliver 2 Written ∷ Deliver 3 Written ∷ []
 
   pub one_acks : (run one begin).acks ≡ (1, 1) ∷ []
   one_acks = refl
@@ -78,7 +83,7 @@ module _ (u : Update) where
 
   -- Ask, Granted; then Apply, Applied, Release
   abbrev granted : List Event
-  granted = Submit 2 u ∷ Deliver 6 Written ∷ Deliver 7 Written ∷ []
+  granted = Submit 2 u valid ∷ Deliver 6 Written ∷ Deliver 7 Written ∷ []
 
   abbrev spread : List Event
   spread = Deliver 8 Written ∷ Deliver 9 Written ∷ Deliver 10 Written ∷ []
@@ -102,7 +107,7 @@ module _ (u : Update) where
 
   -- An Ask that comes again while its sender has the lock is granted again and not logged again.
   abbrev asked_twice : List Event
-  asked_twice = Submit 2 u ∷ Deliver 6 Written ∷ Deliver 6 Written ∷ []
+  asked_twice = Submit 2 u valid ∷ Deliver 6 Written ∷ Deliver 6 Written ∷ []
 
   pub logged_once : length (run asked_twice joined).log.order ≡ 1
   logged_once = refl
@@ -122,7 +127,7 @@ module _ (u : Update) where
 
   -- A settled head: the Granted is lost, and the next view's offer shows node 2 its own record.
   abbrev settled : List Event
-  settled = Submit 2 u ∷ Deliver 6 Written ∷ Declare (view 2 ((1, 1) ∷ (2, 1) ∷ [])) ∷ Install 1 2 (Recovered false) ∷ Install 2 2 (Recovered false) ∷ Deliver 8 Written ∷ []
+  settled = Submit 2 u valid ∷ Deliver 6 Written ∷ Declare (view 2 ((1, 1) ∷ (2, 1) ∷ [])) ∷ Install 1 2 (Recovered false) ∷ Install 2 2 (Recovered false) ∷ Deliver 8 Written ∷ []
 
   -- Its sender dies, and the locker goes on alone with the record, which nobody acknowledges.
   abbrev dies : List Event
@@ -146,7 +151,7 @@ module _ (u : Update) where
 
   -- A record in doubt: the append failed and the node halted; a recovery takes the record or drops it.
   abbrev doubtful : List Event
-  doubtful = Start 1 ∷ Declare (view 1 ((1, 1) ∷ [])) ∷ Install 1 1 (Recovered false) ∷ Submit 1 u ∷ Deliver 1 InDoubt ∷ []
+  doubtful = Start 1 ∷ Declare (view 1 ((1, 1) ∷ [])) ∷ Install 1 1 (Recovered false) ∷ Submit 1 u valid ∷ Deliver 1 InDoubt ∷ []
 
   abbrev reopens : Bool → List Event
   reopens found = Start 1 ∷ Declare (view 2 ((1, 2) ∷ [])) ∷ Install 1 2 (Recovered found) ∷ []
@@ -163,7 +168,7 @@ module _ (u : Update) where
   -- The locker's append of node 2's update failed, and node 2 goes on alone. Where the record is found its head is
   -- settled and acknowledged; where it isn't, the update is asked for again and logged once.
   abbrev orphaned : Bool → List Event
-  orphaned found = Submit 2 u ∷ Deliver 6 InDoubt ∷ Declare (view 2 ((2, 1) ∷ [])) ∷ Install 2 2 (Recovered found) ∷ []
+  orphaned found = Submit 2 u valid ∷ Deliver 6 InDoubt ∷ Declare (view 2 ((2, 1) ∷ [])) ∷ Install 2 2 (Recovered found) ∷ []
 
   pub found_acks : (run (orphaned true) joined).acks ≡ (2, 1) ∷ []
   found_acks = refl
@@ -182,7 +187,7 @@ module _ (u : Update) where
 
   -- A death inside an append leaves the record in doubt as well, and one inside an opening may have raised the claim.
   abbrev torn : List Event
-  torn = Start 1 ∷ Declare (view 1 ((1, 1) ∷ [])) ∷ Install 1 1 (Recovered false) ∷ Submit 1 u ∷ DieInDeliver 1 Written ∷ []
+  torn = Start 1 ∷ Declare (view 1 ((1, 1) ∷ [])) ∷ Install 1 1 (Recovered false) ∷ Submit 1 u valid ∷ DieInDeliver 1 Written ∷ []
 
   pub torn_taken : shown ((run (reopens true) (run torn begin)).nodes 1) ≡ Some (true, (2, 1))
   torn_taken = refl
@@ -195,7 +200,7 @@ module _ (u : Update) where
 
   -- An owner of an older view is fenced: it halts at its next append, and nothing is logged.
   abbrev fenced : List Event
-  fenced = Start 2 ∷ Declare (view 2 ((2, 1) ∷ [])) ∷ Install 2 2 (Recovered false) ∷ Submit 1 u ∷ Deliver 1 Written ∷ []
+  fenced = Start 2 ∷ Declare (view 2 ((2, 1) ∷ [])) ∷ Install 2 2 (Recovered false) ∷ Submit 1 u valid ∷ Deliver 1 Written ∷ []
 
   abbrev first : List Event
   first = Start 1 ∷ Declare (view 1 ((1, 1) ∷ [])) ∷ Install 1 1 (Recovered false) ∷ []

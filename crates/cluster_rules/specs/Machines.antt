@@ -1,5 +1,6 @@
 -- What is replicated: the registry as a deterministic state machine, whose inputs are the records of the update order.
-use Rattle.std.specs.Prelude.{◌≡◌, ℕ, ◌<◌, ◌≤◌, ◌^◌, List, [], ◌∷◌, AllByRecursion, Option, Some, take}
+use Rattle.std.specs.Prelude.{◌≡◌, ℕ, ◌<◌, ◌≤◌, ◌^◌, List, [], ◌∷◌, Option, Some, take}
+use Rattle.std.specs.List.{AllByRecursion}
 use Rattle.update_records.specs.Grammar.{last_place}
 use Rattle.update_records.specs.Entry.{Entry}
 use Rattle.update_records.specs.Limits.{IsUpdate}

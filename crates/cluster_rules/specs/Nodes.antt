@@ -12,7 +12,7 @@ use Rattle.gum_messages.specs.declared.body.Body.{Body}
 use Rattle.gum_messages.specs.declared.body.Body.TheVariants.{Ask}
 use Rattle.gum_messages.specs.Messages.{Sent}
 use Rattle.cluster_rules.specs.declared.effect.Effect.{Effect}
-use Rattle.cluster_rules.specs.declared.effect.Effect.TheVariants.{Acked, Halted, Opened, Send}
+use Rattle.cluster_rules.specs.declared.effect.Effect.TheVariants.{Halted, Send}
 use Rattle.cluster_rules.specs.declared.effect.HaltCause.{HaltCause}
 use Rattle.cluster_rules.specs.declared.offering.Offering.{Offering}
 

@@ -1,5 +1,6 @@
 -- What is promised of every world that a run comes to.
 use Rattle.std.specs.Prelude.{◌≡◌, ℕ, ◌+◌, ◌≤◌, true, length, Some}
+use Rattle.std.specs.List.{AllByRecursion}
 use Rattle.gum_messages.specs.Places.{at_place}
 use Rattle.update_records.specs.Entry.{Entry}
 use Rattle.view_reconcile.specs.Joining as joining
@@ -8,14 +9,17 @@ use Rattle.cluster_rules.specs.Nodes.{NodeState, Replica, number_of}
 use Rattle.cluster_rules.specs.Worlds.{Point, World}
 
 -- Every registry is a prefix's of the one order; records stand at their places, none is logged twice, and each is the
--- update of the request that its id names. The doubtful record is the next one, and no record of the order.
+-- update of the request that its id names and fits the machine. The doubtful record is the next one, fits, and is no
+-- record of the order.
 pub record Safe {M : Machine} (w : World M) : Type 0 where
   pub within : (n : ℕ) (x : NodeState M) (r : Replica M) → w.nodes n ≡ Some x → x.replica ≡ Some r → r.done ≤ length w.log.order
   pub registry : (n : ℕ) (x : NodeState M) (r : Replica M) → w.nodes n ≡ Some x → x.replica ≡ Some r → r.registry ≡ registry_at M w.log.cap w.log.order r.done
   pub places : (k : ℕ) (e : Entry) → at_place w.log.order k ≡ Some e → e.place ≡ k
   pub ids : (j k : ℕ) (d e : Entry) → at_place w.log.order j ≡ Some d → at_place w.log.order k ≡ Some e → d.id ≡ e.id → j ≡ k
   pub updates : (k : ℕ) (e : Entry) → at_place w.log.order k ≡ Some e → at_place (w.requests e.id.node e.id.inc) e.id.req ≡ Some e.update
+  pub fits : AllByRecursion M.Fits w.log.order
   pub next : (e : Entry) → w.log.doubtful ≡ Some e → e.place ≡ length w.log.order + 1
+  pub next_fits : (e : Entry) → w.log.doubtful ≡ Some e → M.Fits e
   pub apart : (d e : Entry) (k : ℕ) → w.log.doubtful ≡ Some d → at_place w.log.order k ≡ Some e → d.id ≡ e.id → ⊥
 
 -- Each acknowledged update stands in the order, and in every node that is open in that view or in a later one.

@@ -1,6 +1,6 @@
 -- The world of the protocol: nodes, messages and the log, without connections. What the disk answers is part of an
 -- event, and so is which message comes next, if any: losses, repeats and reorderings are choices of the events.
-use Rattle.std.specs.Prelude.{ℕ, ◌+◌, Bool, not, ◌&&◌, List, [], ◌∷◌, ◌++◌, length, Option, Some, None, is_none, nat_eq, nat_lt, nat_le, if◌then◌else◌}
+use Rattle.std.specs.Prelude.{ℕ, ◌+◌, ◌^◌, Bool, not, ◌&&◌, List, [], ◌∷◌, ◌++◌, length, Option, Some, None, is_none, nat_eq, nat_lt, nat_le, if◌then◌else◌}
 use Rattle.std.specs.List.{list_all}
 use Rattle.gum_messages.specs.declared.member.Member.{Member}
 use Rattle.gum_messages.specs.declared.view.View.{View}
@@ -8,6 +8,7 @@ use Rattle.gum_messages.specs.Members.{is_locker}
 use Rattle.gum_messages.specs.Places.{at_place}
 use Rattle.update_records.specs.Entry.{Entry}
 use Rattle.update_records.specs.declared.update.Update.{Update}
+use Rattle.update_records.specs.Limits.{IsUpdate}
 use Rattle.view_reconcile.specs.Chains.{fault_of, view_in}
 use Rattle.view_reconcile.specs.Joining as joining
 use Rattle.cluster_rules.specs.Machines.{Machine}
@@ -84,11 +85,12 @@ pub data Event : Type 0 where
   Install : (node view : ℕ) → (opening : Opening) → Event
   -- Messages count from 1 in the order in which they were sent.
   Deliver : (message : ℕ) → (answer : Answer) → Event
-  -- An updating call or a batch.
-  Submit : (node : ℕ) → (update : Update) → Event
+  -- An updating call or a batch, whose update is valid.
+  Submit : (node : ℕ) → (update : Update) → IsUpdate update → Event
   -- A reader of an open node is answered.
   Read : (node : ℕ) → Event
   Tick : (node : ℕ) → Event
+  -- The clock shows a stamp of 64 bits; another shows nothing.
   Clock : (node stamp : ℕ) → Event
   Checkpoint : (node : ℕ) → (good : Bool) → Event
   -- A node dies, also inside an event that makes no call of the log which leaves a trace.
@@ -216,10 +218,10 @@ happens w (Start n) = start w n
 happens w (Declare v) = if may_declare w v then record w { chain = w.chain ++ v ∷ [] } else w
 happens w (Install n v opening) = at_node w n (λ x. elim (view_in w.chain v) [ None ↦ w | Some u ↦ install w n x u opening ])
 happens w (Deliver k answer) = elim (at_place w.pool k) [ None ↦ w | Some p ↦ deliver w p answer ]
-happens w (Submit n update) = at_node w n (λ x. absorb n (submit x update) (noted n x update w))
+happens w (Submit n update valid) = at_node w n (λ x. absorb n (submit x update) (noted n x update w))
 happens w (Read n) = at_node w n (λ x. if joining.is_open x.join then absorb n (nothing x) (reads n x w) else w)
 happens w (Tick n) = at_node w n (λ x. absorb n (tick x) w)
-happens w (Clock n stamp) = at_node w n (λ x. absorb n (clock x stamp) w)
+happens w (Clock n stamp) = if nat_lt stamp (2 ^ 64) then at_node w n (λ x. absorb n (clock x stamp) w) else w
 happens w (Checkpoint n good) = at_node w n (λ x. absorb n (checkpoint x w.log.held good) w)
 happens w (Die n) = stopped n w
 happens w (DieInDeliver k answer) = elim (at_place w.pool k) [ None ↦ w | Some p ↦ die_in_deliver w p answer ]
