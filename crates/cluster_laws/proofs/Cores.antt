@@ -1,5 +1,10 @@
 -- What each core keeps besides: the requests that it counts as logged stand in the order, and whom it awaits is there.
-use Rattle.std.proofs.Common.{◌≡◌, ◌≢◌, ⊎_elim, ℕ, ◌+◌, ◌<◌, ◌≤◌, Bool, true, false, not, ◌&&◌, List, [], ◌∷◌, ◌++◌, length, Option, Some, None, nat_eq, nat_lt, if◌then◌else◌, refl, sym, ap, ◌∙◌, subst, arith}
+use Rattle.gum_core.proofs.Logging.{greatest_kept}
+use Rattle.gum_messages.proofs.Placing.{place_new}
+use Rattle.gum_core.proofs.Logging.{greatest_logged}
+use Rattle.cluster_laws.proofs.Applying.{eq_true}
+use Rattle.gum_core.specs.Updating.{receiver}
+use Rattle.std.proofs.Common.{◌^◌, ◌≡◌, ◌≢◌, ⊎_elim, ℕ, ◌+◌, ◌<◌, ◌≤◌, Bool, true, false, not, ◌&&◌, List, [], ◌∷◌, ◌++◌, length, Option, Some, None, nat_eq, nat_lt, if◌then◌else◌, refl, sym, ap, ◌∙◌, subst, arith}
 use Rattle.gum_messages.specs.declared.view.View.{View}
 use Rattle.gum_messages.specs.Members.{is_locker, is_member}
 use Rattle.gum_messages.proofs.Branches.{if_cases, option_cases}
@@ -26,14 +31,14 @@ use Rattle.cluster_rules.specs.Joins.{done_within, entered, follows, gathers, go
 use Rattle.cluster_rules.specs.Receiving.{checkpoint, clock, receive, tick}
 use Rattle.cluster_rules.specs.Receiving as receiving
 use Rattle.cluster_rules.specs.Worlds.{Opening, Recovered, Refused, World, absorb, claimed, found_log, install, opening, put, raise, with_log, Checkpoint, Clock, Declare, Deliver, Die, DieInDeliver, DieInInstall, Event, Install, Log, Read, Start, Submit, Tick, append, at_node, deliver, die_in_deliver, die_in_install, happens, leave, logs, may_declare, noted, opens_log, reads, run, stopped, written}
+use Rattle.cluster_laws.proofs.Guards.{both, eq_is, eq_not, le_is, lt_is, lt_not, or_either, or_left, or_right}
+use Rattle.cluster_laws.proofs.Applying.{lt_false}
 use Rattle.cluster_laws.proofs.Moves.{put_cases}
 use Rattle.cluster_laws.proofs.Inv.{Has, Invariant, NodeOk, Owner, OwnerOk, Stands}
 use Rattle.cluster_laws.proofs.HeadRules.{open_is_ready}
-use Rattle.cluster_laws.proofs.Going.{CoreOk}
-use Rattle.cluster_laws.proofs.Serving.{more_core, new_core}
 use Rattle.gum_core.proofs.Logging.{greatest_entered}
 use Rattle.cluster_laws.proofs.Orders.{Extends, Grew, GrewLog, append_grew, found_grew, happens_step, leave_grew, log_same, raise_grew}
-use Rattle.cluster_laws.proofs.Theorem.{at_keeps, counted_ok, at_get}
+use Rattle.cluster_laws.proofs.Events.{at_keeps}
 use Rattle.cluster_laws.proofs.Starting.{started_world}
 use Rattle.cluster_laws.proofs.Applying.{and_true, locker_not, lt_true, not_true}
 use Rattle.gum_core.proofs.Cases.{applied_cases, applying_cases, asked_cases, granted_cases, spread_cases}
@@ -51,6 +56,32 @@ use Rattle.gum_messages.specs.Members.{inc_of}
 use Rattle.gum_messages.specs.Places.{at_place}
 use Rattle.view_reconcile.specs.Chains.{view_in}
 use Rattle.gum_messages.proofs.Placing.{place_old}
+
+-- What each core keeps besides: a request that it counts as logged stands in the order, and whom it awaits is there
+pub record CoreOk (l : Log) (c : CoreState) : Type 0 where
+  pub greatest : (m : ℕ) → 0 < inc_of c.members m → 0 < greatest_of c m → (r : Entry) × Stands l r × Has r m (inc_of c.members m) (greatest_of c m)
+  pub awaits : (s : Spreading) → c.spreading ≡ Some s → (to : ℕ) × (receiver c s.at ≡ Some to)
+
+-- the record of a request that is logged now
+pub new_core : (l : Log) (e : Entry) (n : ℕ) (c : CoreState) (m req place : ℕ) → CoreOk l c → e.place ≡ length l.order + 1 → length c.greatest ≡ length c.members → Has e m (inc_of c.members m) req → 0 < inc_of c.members m → CoreOk (append (Some e) n l) (updating.logged c m req place).0
+new_core l e n c m req place h pl ent has lm = record {
+  greatest = λ k lt g. elim (nat_eq k m) as (λ (b : Bool). nat_eq k m ≡ b → (r : Entry) × Stands (append (Some e) n l) r × Has r k (inc_of c.members k) (greatest_of (updating.logged c m req place).0 k)) [
+    | true ↦ λ same.
+        let km : k ≡ m = eq_true k m same in
+        let gr : greatest_of (updating.logged c m req place).0 k ≡ req = ap (λ (a : ℕ). greatest_of (updating.logged c m req place).0 a) km ∙ greatest_logged c m req place ent lm in
+        (e, record { at = ap (λ (a : ℕ). at_place (l.order ++ e ∷ []) a) pl ∙ place_new l.order e },
+        record { node = has.node ∙ sym km; inc = has.inc ∙ ap (λ (a : ℕ). inc_of c.members a) (sym km); req = has.req ∙ sym gr })
+    | false ↦ λ other.
+        let apart : k ≢ m = eq_false k m other in
+        let gr : greatest_of (updating.logged c m req place).0 k ≡ greatest_of c k = greatest_kept c m req place k lt apart in
+        let r = h.greatest k lt (subst (λ (a : ℕ). 0 < a) gr g) in
+        (r.0, record { at = place_old l.order e r.0.place r.0 r.1.at }, record { node = r.2.node; inc = r.2.inc; req = r.2.req ∙ sym gr })
+  ] refl;
+  awaits = h.awaits;
+}
+  where
+    eq_false : (a b : ℕ) → nat_eq a b ≡ false → a ≢ b
+    eq_false a b e = grind arith
 
 finish_core : (l : Log) (c : CoreState) (place : ℕ) → CoreOk l c → CoreOk l (updating.finished c place).0
 finish_core l c place h = record { greatest = h.greatest; awaits = λ s e. absurd (cc) }
@@ -70,7 +101,8 @@ release_core l c from req h = released_cases (λ (r : CoreState × Decision). Co
 enter_core : (l : Log) (c : CoreState) (v : View) → CoreOk l (updating.entered c v)
 enter_core l c v = record { greatest = λ m lt g. absurd (let z : greatest_of (updating.entered c v) m ≡ 0 = greatest_entered c v m in omega (arith, g, z)); awaits = λ s e. absurd (cc) }
 
-grown_core : (l m : Log) (c : CoreState) → GrewLog l m → CoreOk l c → CoreOk m c
+-- a log that grew keeps what cores say of the order
+pub grown_core : (l m : Log) (c : CoreState) → GrewLog l m → CoreOk l c → CoreOk m c
 grown_core l m c g h = record {
   greatest = λ k lt p. let r = h.greatest k lt p in (r.0, record { at = ⊎_elim (λ (e : m.order ≡ l.order). ap (λ (o : List Entry). at_place o r.0.place) e ∙ r.1.at) (λ (e : (s : Entry) × (m.order ≡ l.order ++ s ∷ [])). ap (λ (o : List Entry). at_place o r.0.place) e.1 ∙ place_old l.order e.0 r.0.place r.0 r.1.at) g.order }, r.2);
   awaits = h.awaits;
@@ -318,12 +350,12 @@ module _ {M : Machine} where
       (λ x at. cores_put w (absorb p.to (receive x p w.log.held answer).out (logs (number_of x) (receive x p w.log.held answer) w)) p.to (receive x p w.log.held answer).out.node h
           (leave_grew w.log (append (receive x p w.log.held answer).appended (number_of x) w.log) (receive x p w.log.held answer).doubtful (number_of x) (append_grew w.log (receive x p w.log.held answer).appended (number_of x)))
           refl (receive_stays w p.to x p answer j at (h p.to x at))))
-  cores_keep w (Submit n u) j h = at_keeps (λ (v : World M). Cores v) w n (λ x. absorb n (submit x u) (noted n x u w)) h (λ x at.
+  cores_keep w (Submit n u valid) j h = at_keeps (λ (v : World M). Cores v) w n (λ x. absorb n (submit x u) (noted n x u w)) h (λ x at.
       let nn = noted_nodes w n x u in
       cores_put w (absorb n (submit x u) (noted n x u w)) n (submit x u).node h (subst (λ (l : Log). GrewLog w.log l) (sym nn.1) (log_same w.log)) (ap (λ (f : ℕ → Option (NodeState M)). put f n (submit x u).node) nn.0) (submit_stays (noted n x u w).log x u (subst (λ (l : Log). CoreOk l x.core) (sym nn.1) (h n x at))))
   cores_keep w (Read n) j h = at_keeps (λ (v : World M). Cores v) w n (λ x. if joining.is_open x.join then absorb n (nothing x) (reads n x w) else w) h (λ x at. if_cases (λ (v : World M). Cores v) (joining.is_open x.join) _ _ (λ op. cores_put w (absorb n (nothing x) (reads n x w)) n (Some x) h (log_same w.log) refl (stays_as w.log x (h n x at))) (λ op. h))
   cores_keep w (Tick n) j h = at_keeps (λ (v : World M). Cores v) w n (λ x. absorb n (tick x) w) h (λ x at. cores_put w (absorb n (tick x) w) n (Some x) h (log_same w.log) refl (stays_as w.log x (h n x at)))
-  cores_keep w (Clock n stamp) j h = at_keeps (λ (v : World M). Cores v) w n (λ x. absorb n (clock x stamp) w) h (λ x at. cores_put w (absorb n (clock x stamp) w) n (Some (record x { stamp = stamp })) h (log_same w.log) refl (stays_as w.log (record x { stamp = stamp }) (h n x at)))
+  cores_keep w (Clock n stamp) j h = if_cases (λ (v : World M). Cores v) (nat_lt stamp (2 ^ 64)) _ _ (λ g. at_keeps (λ (v : World M). Cores v) w n (λ x. absorb n (clock x stamp) w) h (λ x at. cores_put w (absorb n (clock x stamp) w) n (Some (record x { stamp = stamp })) h (log_same w.log) refl (stays_as w.log (record x { stamp = stamp }) (h n x at)))) (λ g. h)
   cores_keep w (Checkpoint n good) j h = at_keeps (λ (v : World M). Cores v) w n (λ x. absorb n (checkpoint x w.log.held good) w) h (λ x at. cores_put w (absorb n (checkpoint x w.log.held good) w) n (checkpoint x w.log.held good).node h (log_same w.log) refl (checkpoint_stays w.log x w.log.held good (h n x at)))
   cores_keep w (Die n) j h = cores_put w (stopped n w) n None h (log_same w.log) refl (stays_halts w.log)
   cores_keep w (DieInDeliver k answer) j h = option_cases (λ (u : World M). Cores u) (at_place w.pool k) w (λ p. die_in_deliver w p answer) (λ none. h)

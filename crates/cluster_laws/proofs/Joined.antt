@@ -1,5 +1,5 @@
 -- Who counts as ready is ready: what lockers count, and what messages say of it.
-use Rattle.std.proofs.Common.{◌≡◌, ◌≢◌, ⊎_elim, ℕ, ◌+◌, ◌<◌, ◌≤◌, Bool, true, false, not, ◌&&◌, List, [], ◌∷◌, ◌++◌, length, Option, Some, None, nat_eq, nat_lt, if◌then◌else◌, refl, sym, ap, ◌∙◌, subst, arith}
+use Rattle.std.proofs.Common.{◌^◌, ◌≡◌, ◌≢◌, ⊎_elim, ℕ, ◌+◌, ◌<◌, ◌≤◌, Bool, true, false, not, ◌&&◌, List, [], ◌∷◌, ◌++◌, length, Option, Some, None, nat_eq, nat_lt, if◌then◌else◌, refl, sym, ap, ◌∙◌, subst, arith}
 use Rattle.gum_messages.specs.declared.view.View.{View}
 use Rattle.gum_messages.specs.Members.{is_locker, is_member}
 use Rattle.gum_messages.proofs.Branches.{if_cases, option_cases}
@@ -26,14 +26,14 @@ use Rattle.cluster_rules.specs.Joins.{done_within, entered, follows, gathers, go
 use Rattle.cluster_rules.specs.Receiving.{checkpoint, clock, receive, tick}
 use Rattle.cluster_rules.specs.Receiving as receiving
 use Rattle.cluster_rules.specs.Worlds.{Opening, Recovered, Refused, World, absorb, claimed, found_log, install, opening, put, raise, with_log, Checkpoint, Clock, Declare, Deliver, Die, DieInDeliver, DieInInstall, Event, Install, Log, Read, Start, Submit, Tick, append, at_node, deliver, die_in_deliver, die_in_install, happens, leave, logs, may_declare, noted, opens_log, reads, run, stopped, written}
+use Rattle.cluster_laws.proofs.Guards.{both, eq_is, eq_not, le_is, lt_is, lt_not, or_either, or_left, or_right}
+use Rattle.cluster_laws.proofs.Applying.{lt_false}
 use Rattle.cluster_laws.proofs.Moves.{put_cases}
 use Rattle.cluster_laws.proofs.Inv.{Has, Invariant, NodeOk, Owner, OwnerOk, Stands}
 use Rattle.cluster_laws.proofs.HeadRules.{open_is_ready}
-use Rattle.cluster_laws.proofs.Going.{CoreOk}
-use Rattle.cluster_laws.proofs.Serving.{more_core, new_core}
 use Rattle.gum_core.proofs.Logging.{greatest_entered}
 use Rattle.cluster_laws.proofs.Orders.{Extends, Grew, GrewLog, append_grew, found_grew, happens_step, leave_grew, log_same, raise_grew}
-use Rattle.cluster_laws.proofs.Theorem.{at_keeps, counted_ok, at_get}
+use Rattle.cluster_laws.proofs.Events.{at_get, at_keeps}
 use Rattle.cluster_laws.proofs.Starting.{started_world}
 use Rattle.cluster_laws.proofs.Applying.{and_true, locker_not, lt_true, not_true}
 use Rattle.gum_core.proofs.Cases.{applied_cases, applying_cases, asked_cases, granted_cases, spread_cases}
@@ -68,8 +68,6 @@ use Rattle.gum_messages.specs.Members.{locker_of, spread_of}
 use Rattle.cluster_rules.specs.Worlds.{sent}
 use Rattle.cluster_laws.proofs.Applying.{eq_true}
 use Rattle.cluster_laws.proofs.Moves.{slice_get_append}
-use Rattle.cluster_laws.proofs.Lockers.{Lockers}
-use Rattle.cluster_laws.proofs.Theorem.{happens_keeps}
 use Rattle.std.proofs.Common.{◌-◌}
 use Rattle.cluster_rules.specs.Machines.{IsMachine}
 use Rattle.gum_core.specs.declared.decision.Decision.TheVariants as decision
@@ -103,10 +101,6 @@ calm_quiet (Halted c ∷ es) h k p e = calm_quiet es h k p e
 calm_quiet (Reply c a b ∷ es) h k p e = calm_quiet es h k p e
 calm_quiet (Closed c a ∷ es) h k p e = calm_quiet es h k p e
 calm_quiet (Batched q a c i ∷ es) h k p e = calm_quiet es h k p e
-
-or_both : (a b : Bool) → (a || b) ≡ true → (a ≡ true) ⊎ (b ≡ true)
-or_both true b e = inl refl
-or_both false b e = inr e
 
 not_all : (a b : Bool) → (a && b) ≡ false → a ≡ true → b ≡ false
 not_all true b e h = e
@@ -480,7 +474,7 @@ module _ {M : Machine} where
         opened = λ m lk op lt. ⊎_elim
             (λ (c : joining.is_marked (joining.marked x.join from) m ≡ true). inr (mk m lt c))
             (λ (c : (nat_eq m x.join.node && joining.is_ready x.join) ≡ true). inl (eq_true m x.join.node (and_true (nat_eq m x.join.node) (joining.is_ready x.join) c).0 ∙ (inv.nodes n x at).node))
-            (or_both (joining.is_marked (joining.marked x.join from) m) (nat_eq m x.join.node && joining.is_ready x.join) (each_counts (joining.marked x.join from) m (and_true (joining.is_ready (joining.marked x.join from)) (joining.all_counted (joining.marked x.join from)) a).1 lt));
+            (or_either (joining.is_marked (joining.marked x.join from) m) (nat_eq m x.join.node && joining.is_ready x.join) (each_counts (joining.marked x.join from) m (and_true (joining.is_ready (joining.marked x.join from)) (joining.all_counted (joining.marked x.join from)) a).1 lt));
         readies = λ k p e b. absurd (no_ready z (spread_of z.join.view.members) es q k p e b);
         opens = λ k p e b. (in_view z (spread_of z.join.view.members) es q k p e b, l, refl);
       } in
@@ -774,12 +768,12 @@ module _ {M : Machine} where
           (λ g. let a = and_true (nat_eq p.view (number_of x)) (nat_lt 0 (inc_of (members_of x) p.from)) g in
           hears_fine w p.to x (k - 1) p answer inv j at (at_get w.pool k p some) (eq_true p.view (number_of x) a.0) (lt_true 0 (inc_of (members_of x) p.from) a.1) p.body refl)
           (λ g. plain_fine w p.to x (nothing x) j at (plain_as x x [] refl refl)))))
-  joined_branch w (Submit n u) inv j = at_keeps (λ (v : World M). Invariant v → Joined v) w n (λ x. absorb n (submit x u) (noted n x u w)) (λ i. j) (λ x at. if_cases (λ (v : World M). Invariant (absorb n (submit x u) v) → Joined (absorb n (submit x u) v)) (may_submit x) (record w { requests = put w.requests n (put (w.requests n) x.join.inc (w.requests n x.join.inc ++ u ∷ [])) }) w
+  joined_branch w (Submit n u valid) inv j = at_keeps (λ (v : World M). Invariant v → Joined v) w n (λ x. absorb n (submit x u) (noted n x u w)) (λ i. j) (λ x at. if_cases (λ (v : World M). Invariant (absorb n (submit x u) v) → Joined (absorb n (submit x u) v)) (may_submit x) (record w { requests = put w.requests n (put (w.requests n) x.join.inc (w.requests n x.join.inc ++ u ∷ [])) }) w
       (λ g i. joined_fine w _ n x (submit x u) i j at refl refl refl refl (plain_fine w n x (submit x u) j at (submit_plain x u)))
       (λ g i. joined_fine w _ n x (submit x u) i j at refl refl refl refl (plain_fine w n x (submit x u) j at (submit_plain x u))))
   joined_branch w (Read n) inv j = at_keeps (λ (v : World M). Invariant v → Joined v) w n (λ x. if joining.is_open x.join then absorb n (nothing x) (reads n x w) else w) (λ i. j) (λ x at. if_cases (λ (v : World M). Invariant v → Joined v) (joining.is_open x.join) _ _ (λ op i. joined_fine w (absorb n (nothing x) (reads n x w)) n x (nothing x) i j at refl refl refl refl (plain_fine w n x (nothing x) j at (plain_as x x [] refl refl))) (λ op i. j))
   joined_branch w (Tick n) inv j = at_keeps (λ (v : World M). Invariant v → Joined v) w n (λ x. absorb n (tick x) w) (λ i. j) (λ x at i. joined_fine w (absorb n (tick x) w) n x (tick x) i j at refl refl refl refl (tick_fine w n x inv j at))
-  joined_branch w (Clock n stamp) inv j = at_keeps (λ (v : World M). Invariant v → Joined v) w n (λ x. absorb n (clock x stamp) w) (λ i. j) (λ x at i. joined_fine w (absorb n (clock x stamp) w) n x (clock x stamp) i j at refl refl refl refl (plain_fine w n x (clock x stamp) j at (plain_as x (record x { stamp = stamp }) [] refl refl)))
+  joined_branch w (Clock n stamp) inv j = if_cases (λ (v : World M). Invariant v → Joined v) (nat_lt stamp (2 ^ 64)) _ _ (λ g. at_keeps (λ (v : World M). Invariant v → Joined v) w n (λ x. absorb n (clock x stamp) w) (λ i. j) (λ x at i. joined_fine w (absorb n (clock x stamp) w) n x (clock x stamp) i j at refl refl refl refl (plain_fine w n x (clock x stamp) j at (plain_as x (record x { stamp = stamp }) [] refl refl)))) (λ g i. j)
   joined_branch w (Checkpoint n good) inv j = at_keeps (λ (v : World M). Invariant v → Joined v) w n (λ x. absorb n (checkpoint x w.log.held good) w) (λ i. j) (λ x at i. joined_fine w (absorb n (checkpoint x w.log.held good) w) n x (checkpoint x w.log.held good) i j at refl refl refl refl (plain_fine w n x (checkpoint x w.log.held good) j at (checkpoint_plain x w.log.held good)))
   joined_branch w (Die n) inv j = λ i. joined_stop w (stopped n w) n j refl refl refl refl
   joined_branch w (DieInDeliver k answer) inv j = option_cases (λ (u : World M). Invariant u → Joined u) (at_place w.pool k) w (λ p. die_in_deliver w p answer) (λ none i. j)
@@ -788,5 +782,5 @@ module _ {M : Machine} where
   joined_branch w (DieInInstall n v raised) inv j = at_keeps (λ (u : World M). Invariant u → Joined u) w n (λ x. elim (view_in w.chain v) [ None ↦ w | Some u ↦ die_in_install w n x u raised ]) (λ i. j)
       (λ x at. option_cases (λ (u : World M). Invariant u → Joined u) (view_in w.chain v) w (λ u. die_in_install w n x u raised) (λ none i. j) (λ u some i. joined_stop w (die_in_install w n x u raised) n j refl refl refl refl))
 
-  pub joined_keep : IsMachine M → (w : World M) (e : Event) → Invariant w → Lockers w → Joined w → Joined (happens w e)
-  joined_keep law w e inv lo j = joined_branch w e inv j (happens_keeps law w e inv lo)
+  pub joined_keep : (w : World M) (e : Event) → Invariant w → Invariant (happens w e) → Joined w → Joined (happens w e)
+  joined_keep w e inv after j = joined_branch w e inv j after

@@ -4,6 +4,9 @@ use Rattle.gum_messages.specs.declared.member.Member.{Member}
 use Rattle.gum_messages.specs.declared.view.View.{View}
 use Rattle.gum_messages.specs.Members.{inc_of, is_locker, locker_of}
 use Rattle.gum_messages.specs.Views.{Ascend, IsView}
+use Rattle.cluster_laws.proofs.Guards.{both, eq_is, eq_not, le_is, lt_is, lt_not, or_either, or_left, or_right}
+use Rattle.cluster_laws.proofs.Applying.{lt_false}
+use Rattle.cluster_laws.proofs.Sound.{Sound}
 use Rattle.cluster_laws.proofs.Joined.{Joined}
 use Rattle.gum_messages.proofs.Branches.{if_cases, option_cases}
 use Rattle.update_records.specs.declared.update.Update.{Update}
@@ -34,10 +37,9 @@ use Rattle.cluster_laws.proofs.Lockers.{Lockers}
 use Rattle.cluster_laws.proofs.Moves.{put_cases}
 use Rattle.cluster_laws.proofs.Applying.{eq_true, lt_true}
 use Rattle.cluster_laws.proofs.Theorem.{happens_keeps, lockers_keep}
-use Rattle.gum_core.specs.Updating.{last_place}
+use Rattle.update_records.specs.Grammar.{last_place}
 use Rattle.cluster_rules.specs.Progress.{Served, Standing, has_room, waiting}
-use Rattle.cluster_laws.proofs.Served.{waiting_le}
-use Rattle.cluster_laws.proofs.Unstuck.{AllOpen, Reached, unstuck_open}
+use Rattle.cluster_laws.proofs.Queues.{open_served, waiting_le}
 use Rattle.cluster_laws.proofs.Cores.{Cores, cores_keep}
 use Rattle.std.proofs.Common.{◌-◌, min, take, length-take, length-drop, nat_le}
 use Rattle.gum_messages.specs.Places.{at_place}
@@ -51,7 +53,7 @@ use Rattle.cluster_rules.specs.Updates.{applied}
 use Rattle.cluster_rules.specs.Joins.{follows, gathers, joined, known_done, offer_each, offered_cap, on_need, on_offer, on_piece, piece, says_ready, sends_piece, takes_state, with_replica}
 use Rattle.cluster_laws.proofs.Inv.{state_bytes}
 use Rattle.cluster_laws.proofs.Applying.{and_true, done_at, locker_not, state_of}
-use Rattle.cluster_laws.proofs.Offering.{place_is, taken_ready}
+use Rattle.cluster_laws.proofs.Offering.{all_take, place_is, taken_ready}
 use Rattle.std.specs.List.{list_all}
 use Rattle.std.specs.Prelude.{count_by, filter, ◌||◌}
 use Rattle.std.proofs.lemmas.List.Sums.{length-filter}
@@ -61,8 +63,8 @@ use Rattle.cluster_rules.specs.Joins.{opens_view}
 use Rattle.cluster_rules.specs.Nodes.{to_each}
 use Rattle.gum_messages.specs.Members.{spread_of}
 use Rattle.std.proofs.Common.{take-add, take_all}
-use Rattle.cluster_laws.proofs.Going.{CoreOk, Held, leads_now, leads_one, leads_then, put_self, queue_less, sent_held, shown, shown_same, still_is, tick_is, turned}
-use Rattle.cluster_laws.proofs.Rounds.{Near, near_self, above, at_back, both, counts_true, drop_less, eq_is, le_is, first_sent, locker_locks, lt_is, mail, mailed, near_turned, sends, shown_at}
+use Rattle.cluster_laws.proofs.Leading.{Held, Live, Stand, move, leads_now, leads_one, leads_then, put_self, queue_less, sent_held, shown, shown_same, still_is, tick_is, turned}
+use Rattle.cluster_laws.proofs.Propagation.{Near, near_self, above, at_back, counts_true, drop_less, first_sent, locker_locks, mail, mailed, near_turned, sends, shown_at}
 
 pub ready_stage : (s : ReconcileState) → joining.is_ready s ≡ true → joining.pulled_bytes s ≡ None
 ready_stage s h = by s.stage h
@@ -88,9 +90,6 @@ member_at (m ∷ ms) n h = elim (nat_eq m.node n) as (λ (b : Bool). nat_eq m.no
 piece_size : (l : List ℕ) (got c : ℕ) → c ≤ length l - got → length (take c (drop got l)) ≡ c
 piece_size l got c h = simp (length-take, length-drop) (omega (arith, h))
 
-ge_false : (a b : ℕ) → nat_lt a b ≡ false → b ≤ a
-ge_false a b e = grind arith
-
 zero_view : {n : ℕ} → 1 ≤ n → n ≡ 0 → ⊥
 zero_view h e = omega (arith, h, e)
 
@@ -112,18 +111,6 @@ count_pos p ms j t e h = subst (λ (k : ℕ). 0 < k) (length-filter p ms) (filte
 each_all : (p : ℕ → Bool) (ms : List Member) → ((j : ℕ) (t : Member) → slice_get ms j ≡ Some t → p t.node ≡ true) → list_all (λ (m : Member). p m.node) ms ≡ true
 each_all p [] f = refl
 each_all p (m ∷ ms) f = both (p m.node) (list_all (λ (m : Member). p m.node) ms) (f 0 m refl) (each_all p ms (λ j t e. f (suc j) t e))
-
-or_left : (a b : Bool) → a ≡ true → (a || b) ≡ true
-or_left true b e = refl
-or_left false b e = cc
-
-or_right : (a b : Bool) → b ≡ true → (a || b) ≡ true
-or_right true b e = refl
-or_right false b e = e
-
-or_either : (a b : Bool) → (a || b) ≡ true → (a ≡ true) ⊎ (b ≡ true)
-or_either true b e = inl refl
-or_either false b e = inr e
 
 -- who counted counts on, and who said so counts
 counts_marked : (s : ReconcileState) (m : ℕ) → length s.ready ≡ length s.view.members → 0 < inc_of s.view.members m → joining.counts_ready (joining.marked s m) m ≡ true
@@ -163,45 +150,10 @@ module _ {M : Machine} where
       let pos : 0 < inc_of x.join.view.members m = subst (λ (a : ℕ). 0 < a) ic (inv.nodes m y yat).positive in
       ((j.opened n x m xat lk op pos).here y yat ic).1 (ap (λ (t : View). t.number) vw)
 
-  -- A view that stands, with all that is known
-  pub record Stand (w : World M) (v : View) : Type 0 where
-    pub inv : Invariant w
-    pub lockers : Lockers w
-    pub cores : Cores w
-    pub joins : Joined w
-    pub shape : IsView v
-    pub held : w.log.held ≡ v.number
-    pub member : (n : ℕ) → 0 < inc_of v.members n → (x : NodeState M) × Runs w v n x
-
   abbrev pub open_at : World M → ℕ → Bool
   open_at w n = shown (λ (x : NodeState M). joining.is_open x.join) false (w.nodes n)
 
-  module _ (law : IsMachine M) (joins_keep : (w : World M) (e : Event) → Invariant w → Lockers w → Joined w → Joined (happens w e)) where
-    stand_turned : (w : World M) (v : View) (e : Event) (n : ℕ) (x y : NodeState M) (es : List Effect) → Stand w v → happens w e ≡ turned w w.log n y es → w.nodes n ≡ Some x → y.join.view ≡ x.join.view → y.join.inc ≡ x.join.inc → Stand (turned w w.log n y es) v
-    stand_turned w v e n x y es h q at jv ji = record {
-      inv = subst (λ (u : World M). Invariant u) q (happens_keeps law w e h.inv h.lockers);
-      lockers = subst (λ (u : World M). Lockers u) q (lockers_keep w e h.lockers);
-      cores = subst (λ (u : World M). Cores u) q (cores_keep w e h.inv h.cores);
-      joins = subst (λ (u : World M). Joined u) q (joins_keep w e h.inv h.lockers h.joins);
-      shape = h.shape;
-      held = h.held;
-      member = λ m lt.
-          let o = h.member m lt in
-          let P : Option (NodeState M) → Type 0 = λ o. (z : NodeState M) × (o ≡ Some z) × (z.join.inc ≡ inc_of v.members m) × (z.join.view ≡ v) in
-          let r : P (put w.nodes n (Some y) m) = if_cases P (nat_eq m n) _ _
-              (λ q.
-              let xs : Some o.0 ≡ Some x = sym o.1.node ∙ ap w.nodes (eq_true m n q) ∙ at in
-              let xo : o.0 ≡ x = cc in
-              (y, refl, ji ∙ ap (λ (t : NodeState M). t.join.inc) (sym xo) ∙ o.1.inc, jv ∙ ap (λ (t : NodeState M). t.join.view) (sym xo) ∙ o.1.view))
-              (λ q. (o.0, o.1.node, o.1.inc, o.1.view)) in
-          (r.0, record { node = r.1; inc = r.2; view = r.3 });
-    }
-
-    move : (w : World M) (v : View) (e : Event) (n : ℕ) (x y : NodeState M) (es : List Effect) (Q : World M → Type 0) → goes_on e ≡ true → Stand w v → happens w e ≡ turned w w.log n y es → w.nodes n ≡ Some x → y.join.view ≡ x.join.view → y.join.inc ≡ x.join.inc → (Stand (turned w w.log n y es) v → Leads goes_on (turned w w.log n y es) Q) → Leads goes_on w Q
-    move w v e n x y es Q g h q at jv ji k =
-        let u : World M = turned w w.log n y es in
-        leads_then goes_on w (λ (t : World M). t ≡ u) Q (leads_one w e u (λ (t : World M). t ≡ u) g q refl) (λ t r. subst (λ (t : World M). Leads goes_on t Q) (sym r) (k (stand_turned w v e n x y es h q at jv ji)))
-
+  module _ (law : IsMachine M) where
     runs_in : (w : World M) (v : View) (n : ℕ) (x : NodeState M) → Stand w v → 0 < inc_of v.members n → w.nodes n ≡ Some x → Runs w v n x
     runs_in w v n x h lt at =
         let o = h.member n lt in
@@ -244,20 +196,20 @@ module _ {M : Machine} where
     open_go v w m y h lm ll lop yat shut nr =
         let L : ℕ = locker_of v.members in
         let yr = runs_in w v m y h lm yat in
-        let yk : NodeOk w m y = h.inv.nodes m y yat in
+        let yk : NodeOk w m y = h.sound.inv.nodes m y yat in
         let o = h.member L ll in
         let x : NodeState M = o.0 in
         let xat : w.nodes L ≡ Some x = o.1.node in
-        let xk : NodeOk w L x = h.inv.nodes L x xat in
+        let xk : NodeOk w L x = h.sound.inv.nodes L x xat in
         let xop : joining.is_open x.join ≡ true = sym (shown_at (λ (t : NodeState M). joining.is_open t.join) false w L x xat) ∙ lop in
         let lks : joining.locks x.join ≡ true = ap (λ (t : View). is_locker t.members x.join.node) o.1.view ∙ ap (λ (a : ℕ). is_locker v.members a) xk.node ∙ locker_locks v.members ll in
-        let rd : joining.is_ready y.join ≡ true = ready_of w L m x y h.inv h.joins xat yat lks xop (yr.view ∙ sym o.1.view) (yr.inc ∙ ap (λ (t : View). inc_of t.members m) (sym o.1.view)) in
+        let rd : joining.is_ready y.join ≡ true = ready_of w L m x y h.sound.inv h.sound.joins xat yat lks xop (yr.view ∙ sym o.1.view) (yr.inc ∙ ap (λ (t : View). inc_of t.members m) (sym o.1.view)) in
         let apart : m ≢ L = λ e. false_true (sym shut ∙ sym (shown_at (λ (t : NodeState M). joining.is_open t.join) false w m y yat) ∙ ap (λ (a : ℕ). open_at w a) e ∙ lop) in
         let nlk : joining.locks y.join ≡ false = ap (λ (t : View). is_locker t.members y.join.node) yr.view ∙ ap (λ (a : ℕ). is_locker v.members a) yk.node ∙ other v.members m apart in
         let tk = ready_tells y nlk rd shut in
         let es1 : List Effect = (tick y).effects in
         let u1 : World M = turned w w.log m y es1 in
-        move w v (Tick m) m y y es1 (λ u. Wider v w m u) refl h (tick_is w m y yat) yat refl refl
+        move law w v (Tick m) m y y es1 (λ u. Wider v w m u) refl h (tick_is w m y yat) yat refl refl
         (λ h1.
         let hd1 : Held u1 (mail v m L Ready) = sends w v w.log m y es1 m (locker_at y) L tk.0 Ready yr.view yk.node (ap (λ (t : View). locker_of t.members) yr.view) tk.1 in
         let n1 : Near w u1 = near_turned w w m y y es1 nr yat (omega arith) in
@@ -267,7 +219,7 @@ module _ {M : Machine} where
             ap (λ (b : Bool). if b then (if joining.is_open x.join then (x.join, step.OpenAgain m) else (if joining.all_ready (joining.marked x.join m) then (record (joining.marked x.join m) { stage = stage.Open }, step.Open) else (joining.marked x.join m, step.Nothing))) else (x.join, step.Nothing)) lks
             ∙ ap (λ (b : Bool). if b then (x.join, step.OpenAgain m) else (if joining.all_ready (joining.marked x.join m) then (record (joining.marked x.join m) { stage = stage.Open }, step.Open) else (joining.marked x.join m, step.Nothing))) xop in
         let u2 : World M = turned u1 u1.log L x es2 in
-        move u1 v (Deliver hd1.at Written) L x x es2 (λ u. Wider v w m u) refl h1 (still_is u1 (mail v m L Ready) x (becomes x es2) hd1 x1 (heard u1 v x m L Ready h1 lm ll x1 ∙ ap (λ (r : ReconcileState × Step). unlogged (marks_ready x r)) ra)) x1 refl refl
+        move law u1 v (Deliver hd1.at Written) L x x es2 (λ u. Wider v w m u) refl h1 (still_is u1 (mail v m L Ready) x (becomes x es2) hd1 x1 (heard u1 v x m L Ready h1 lm ll x1 ∙ ap (λ (r : ReconcileState × Step). unlogged (marks_ready x r)) ra)) x1 refl refl
         (λ h2.
         let hd2 : Held u2 (mail v L m OpenView) = sends u1 v u1.log L x es2 L m m 0 OpenView o.1.view xk.node refl refl in
         let n2 : Near w u2 = near_turned w u1 L x x es2 n1 x1 (omega arith) in
@@ -280,7 +232,7 @@ module _ {M : Machine} where
         let out = begins_out z (Opened z.join.view.number ∷ []) in
         let t : NodeState M = out.0 in
         let u3 : World M = turned u2 u2.log m t out.1 in
-        move u2 v (Deliver hd2.at Written) m y t out.1 (λ u. Wider v w m u) refl h2 (still_is u2 (mail v L m OpenView) y (acknowledges t out.2 out.1) hd2 y2 (heard u2 v y L m OpenView h2 ll lm y2 ∙ ap (λ (r : Out M). unlogged r) (ov ∙ out.3))) y2 (ap (λ (j : ReconcileState). j.view) out.4) (ap (λ (j : ReconcileState). j.inc) out.4)
+        move law u2 v (Deliver hd2.at Written) m y t out.1 (λ u. Wider v w m u) refl h2 (still_is u2 (mail v L m OpenView) y (acknowledges t out.2 out.1) hd2 y2 (heard u2 v y L m OpenView h2 ll lm y2 ∙ ap (λ (r : Out M). unlogged r) (ov ∙ out.3))) y2 (ap (λ (j : ReconcileState). j.view) out.4) (ap (λ (j : ReconcileState). j.inc) out.4)
         (λ h3.
         let here : open_at u3 m ≡ true = ap (λ (o : Option (NodeState M)). shown (λ (a : NodeState M). joining.is_open a.join) false o) (put_self u2.nodes m (Some t)) ∙ ap joining.is_open out.4 in
         leads_now goes_on u3 (λ u. Wider v w m u) (record {
@@ -337,9 +289,8 @@ module _ {M : Machine} where
         let le : waiting u v.members ≤ waiting w v.members = waiting_le w u v.members o.near.fewer in
         let od : length u.log.order ≡ length w.log.order = ap (λ (g : Log). length g.order) o.near.log in
         let rm : length w.log.order + waiting w v.members ≤ last_place = room in
-        unstuck_open law u v (record { inv = o.stand.inv; lockers = o.stand.lockers; cores = o.stand.cores }) (record { shape = o.stand.shape; held = o.stand.held; member = o.stand.member })
-            (record { open_ = λ n x lt at. let r = member_at v.members n lt in sym (shown_at (λ (t : NodeState M). joining.is_open t.join) false u n x at) ∙ ap (λ (a : ℕ). open_at u a) (sym r.3) ∙ o.all r.0 r.1 r.2 })
-            (omega (arith, le, od, rm)))
+        open_served law v u (record { stand = o.stand; open_ = λ n x lt at. let r = member_at v.members n lt in sym (shown_at (λ (t : NodeState M). joining.is_open t.join) false u n x at) ∙ ap (λ (a : ℕ). open_at u a) (sym r.3) ∙ o.all r.0 r.1 r.2 })
+            ll (omega (arith, le, od, rm)))
 
     -- A member becomes ready: the others stay as they are, and its Ready is on its way
     pub record Told (v : View) (w0 : World M) (m : ℕ) (x : NodeState M) (u : World M) : Type 0 where
@@ -354,10 +305,10 @@ module _ {M : Machine} where
     told_go : (v : View) (w0 w : World M) (m : ℕ) (y z : NodeState M) (x : NodeState M) (e : Event) → Stand w v → Near w0 w → goes_on e ≡ true → 0 < inc_of v.members m → (locker_of v.members ≡ m → ⊥) → w.nodes (locker_of v.members) ≡ Some x → w.nodes m ≡ Some y → happens w e ≡ absorb m (says_ready z) w → z.join.view ≡ y.join.view → z.join.inc ≡ y.join.inc → z.join.node ≡ y.join.node → length z.core.queue ≤ length y.core.queue → Leads goes_on w (λ u. Told v w0 m x u)
     told_go v w0 w m y z x e h nr g lm apart xat yat ev zv zi zn le =
         let yr = runs_in w v m y h lm yat in
-        let yk : NodeOk w m y = h.inv.nodes m y yat in
+        let yk : NodeOk w m y = h.sound.inv.nodes m y yat in
         let es : List Effect = Send (packet z (locker_at z) Ready) ∷ [] in
         let u : World M = turned w w.log m z es in
-        move w v e m y z es (λ u. Told v w0 m x u) g h ev yat zv zi (λ h1.
+        move law w v e m y z es (λ u. Told v w0 m x u) g h ev yat zv zi (λ h1.
         leads_now goes_on u (λ u. Told v w0 m x u) (record {
           stand = h1;
           near = near_turned w0 w m y z es nr yat le;
@@ -376,7 +327,7 @@ module _ {M : Machine} where
         let c : ℕ = min 4096 (total - got) in
         let bs : List ℕ = take c (drop got S) in
         let xr = runs_in w v L x h ll xat in
-        let xk : NodeOk w L x = h.inv.nodes L x xat in
+        let xk : NodeOk w L x = h.sound.inv.nodes L x xat in
         let lks : joining.locks x.join ≡ true = ap (λ (t : View). is_locker t.members x.join.node) xr.view ∙ ap (λ (a : ℕ). is_locker v.members a) xk.node ∙ locker_locks v.members ll in
         let F : Option ℕ → Out M = λ o. elim o [ None ↦ nothing x | Some count ↦ tells x m (piece S got count) ] in
         let nd : on_need x m got ≡ tells x m (Piece total got bs) =
@@ -385,14 +336,14 @@ module _ {M : Machine} where
             ∙ ap (λ (b : Bool). F (if b then Some (min 4096 (total - got)) else None)) (le_is got total fit) in
         let es1 : List Effect = Send (packet x m (Piece total got bs)) ∷ [] in
         let u1 : World M = turned w w.log L x es1 in
-        move w v (Deliver hd.at Written) L x x es1 (λ u. Told v w0 m x u) refl h (still_is w (mail v m L (Need got)) x (becomes x es1) hd xat (heard w v x m L (Need got) h lm ll xat ∙ ap (λ (o : Out M). unlogged o) nd)) xat refl refl
+        move law w v (Deliver hd.at Written) L x x es1 (λ u. Told v w0 m x u) refl h (still_is w (mail v m L (Need got)) x (becomes x es1) hd xat (heard w v x m L (Need got) h lm ll xat ∙ ap (λ (o : Out M). unlogged o) nd)) xat refl refl
         (λ h1.
         let hd1 : Held u1 (mail v L m (Piece total got bs)) = sends w v w.log L x es1 L m m 0 (Piece total got bs) xr.view xk.node refl refl in
         let n1 : Near w0 u1 = near_turned w0 w L x x es1 nr xat (omega arith) in
         let x1 : u1.nodes L ≡ Some x = put_self w.nodes L (Some x) in
         let y1 : u1.nodes m ≡ Some y = put_other w.nodes L m (Some x) y (λ e. apart (sym e)) yat in
         let yr = runs_in u1 v m y h1 lm y1 in
-        let yk : NodeOk u1 m y = h1.inv.nodes m y y1 in
+        let yk : NodeOk u1 m y = h1.sound.inv.nodes m y y1 in
         let size : length bs ≡ c = piece_size S got c (omega arith) in
         let big : ReconcileState × Step = (record y.join { stage = stage.Pulling (got + length bs) }, step.Pull (got + length bs)) in
         let end_ : ReconcileState × Step = (record y.join { stage = stage.Taking }, step.Whole) in
@@ -408,24 +359,24 @@ module _ {M : Machine} where
         let es2 : List Effect = Send (packet z (locker_at y) (Need (got + length bs))) ∷ [] in
         let u2 : World M = turned u1 u1.log m z es2 in
         let few : got + length bs < total = lt_true (got + length bs) total lt in
-        move u1 v (Deliver hd1.at Written) m y z es2 (λ u. Told v w0 m x u) refl h1 ev y1 refl refl (λ h2.
+        move law u1 v (Deliver hd1.at Written) m y z es2 (λ u. Told v w0 m x u) refl h1 ev y1 refl refl (λ h2.
         again u2 z (length bs) (omega (arith, size, few)) few h2 (near_turned w0 u1 m y z es2 n1 y1 (omega arith)) (put_other u1.nodes m L (Some z) x apart x1) (put_self u1.nodes m (Some z)) refl
             (sends u1 v u1.log m z es2 m (locker_at y) L 0 (Need (got + length bs)) yr.view yk.node (ap (λ (t : View). locker_of t.members) yr.view) refl)))
         (λ ge ev.
         let q = yk.pulled got sg in
         let o : Offering = q.0 in
         let p = yk.pull o q.1 in
-        let rd : joining.is_ready x.join ≡ true = h1.lockers L x x1 lks (λ e. zero_view (h1.shape.numbered) (ap (λ (t : View). t.number) (sym xr.view) ∙ e)) in
-        let xk1 : NodeOk u1 L x = h1.inv.nodes L x x1 in
+        let rd : joining.is_ready x.join ≡ true = h1.sound.lockers L x x1 lks (λ e. zero_view (h1.shape.numbered) (ap (λ (t : View). t.number) (sym xr.view) ∙ e)) in
+        let xk1 : NodeOk u1 L x = h1.sound.inv.nodes L x x1 in
         let ct : Some (done_of x) ≡ Some o.count = sym (xk1.closed rd lks shut) ∙ ap u1.log.count (ap (λ (t : View). t.number) (xr.view ∙ sym yr.view)) ∙ p.1 in
         let dn : done_of x ≡ o.count = cc in
         let g : M.Registry = registry_at M u1.log.cap u1.log.order o.count in
         let rg : r.registry ≡ g = xk1.registry r rep ∙ ap (registry_at M u1.log.cap u1.log.order) (sym (done_at x r rep) ∙ dn) in
         let Se : S ≡ state_bytes u1 o.count = ap M.encode rg in
-        let le : total ≤ got + length bs = ge_false (got + length bs) total ge in
+        let le : total ≤ got + length bs = lt_false (got + length bs) total ge in
         let bb : bs ≡ take (length bs) (drop got S) = ap (λ (k : ℕ). take k (drop got S)) (sym size) in
         let all : y.bytes ++ bs ≡ S = (λ i. (q.2 ∙ ap (take got) (sym Se)) i ++ bb i) ∙ sym (take-add got (length bs) S) ∙ take_all (got + length bs) S le in
-        let dec : M.decode o.cap (y.bytes ++ bs) ≡ Some g = (λ i. M.decode (p.2 i) ((all ∙ Se) i)) ∙ law.reads_back u1.log.cap (take o.count u1.log.order) in
+        let dec : M.decode o.cap (y.bytes ++ bs) ≡ Some g = (λ i. M.decode (p.2 i) ((all ∙ Se) i)) ∙ law.reads_back u1.log.cap (take o.count u1.log.order) h1.sound.fitting.log.is_cap (all_take M.Fits o.count u1.log.order h1.sound.fitting.log.records) in
         let taking : ReconcileState = record y.join { stage = stage.Taking } in
         let z : NodeState M = joined (with_replica y g o.count) o.count o.last (record y.join { stage = stage.Ready }) in
         let ts : takes_state y (y.bytes ++ bs) taking ≡ says_ready z =
@@ -481,9 +432,9 @@ module _ {M : Machine} where
     offer_go v w m x h lm ll xat shut nc =
         let L : ℕ = locker_of v.members in
         let xr = runs_in w v L x h ll xat in
-        let xk : NodeOk w L x = h.inv.nodes L x xat in
+        let xk : NodeOk w L x = h.sound.inv.nodes L x xat in
         let lks : joining.locks x.join ≡ true = ap (λ (t : View). is_locker t.members x.join.node) xr.view ∙ ap (λ (a : ℕ). is_locker v.members a) xk.node ∙ locker_locks v.members ll in
-        let rd : joining.is_ready x.join ≡ true = h.lockers L x xat lks (λ e. zero_view (h.shape.numbered) (ap (λ (t : View). t.number) (sym xr.view) ∙ e)) in
+        let rd : joining.is_ready x.join ≡ true = h.sound.lockers L x xat lks (λ e. zero_view (h.shape.numbered) (ap (λ (t : View). t.number) (sym xr.view) ∙ e)) in
         let apart : L ≡ m → ⊥ = λ e. locker_not (joining.counts_ready x.join m) (or_right (joining.is_marked x.join m) (nat_eq m x.join.node && joining.is_ready x.join) (both (nat_eq m x.join.node) (joining.is_ready x.join) (eq_is m x.join.node (sym e ∙ sym xk.node)) rd)) nc in
         let ma = member_at v.members m lm in
         let tn : ma.1.node ≡ m = ma.3 in
@@ -499,7 +450,7 @@ module _ {M : Machine} where
         let u1 : World M = turned w w.log L x es1 in
         let rep = state_of x (xk.ready_state rd).0 in
         let Q : World M → Type 0 = λ u. Told v w m x u in
-        move w v (Tick L) L x x es1 Q refl h (tick_is w L x xat) xat refl refl
+        move law w v (Tick L) L x x es1 Q refl h (tick_is w L x xat) xat refl refl
         (λ h1.
         let hd1 : Held u1 (mail v L m b) = sends w v w.log L x es1 L ma.1.node m tk.0 b xr.view xk.node tn tk.1 in
         let n1 : Near w u1 = near_turned w w L x x es1 (near_self w) xat (omega arith) in
@@ -507,7 +458,7 @@ module _ {M : Machine} where
         let yo = h1.member m lm in
         let y : NodeState M = yo.0 in
         let y1 : u1.nodes m ≡ Some y = yo.1.node in
-        let yk : NodeOk u1 m y = h1.inv.nodes m y y1 in
+        let yk : NodeOk u1 m y = h1.sound.inv.nodes m y y1 in
         let nlk : joining.locks y.join ≡ false = ap (λ (t : View). is_locker t.members y.join.node) yo.1.view ∙ ap (λ (a : ℕ). is_locker v.members a) yk.node ∙ other v.members m (λ e. apart (sym e)) in
         let e : Event = Deliver hd1.at Written in
         let gd : (nat_eq L (locker_at y) && not (joining.locks y.join)) ≡ true = both (nat_eq L (locker_at y)) (not (joining.locks y.join)) (eq_is L (locker_at y) (ap (λ (t : View). locker_of t.members) (sym yo.1.view))) (ap not nlk) in
@@ -537,7 +488,7 @@ module _ {M : Machine} where
         let z : NodeState M = record y { join = (joining.pulls y.join).0; offer = Some o; bytes = [] } in
         let es2 : List Effect = Send (packet z (locker_at y) (Need 0)) ∷ [] in
         let u2 : World M = turned u1 u1.log m z es2 in
-        move u1 v e m y z es2 Q refl h1 ev y1 refl refl (λ h2.
+        move law u1 v e m y z es2 Q refl h1 ev y1 refl refl (λ h2.
         pull_go (length (M.encode rep.0.registry)) v w u2 m x z 0 rep.0 h2 (near_turned w u1 m y z es2 n1 y1 (omega arith)) lm ll apart (put_other u1.nodes m L (Some z) x apart x1) shut rep.1 (put_self u1.nodes m (Some z)) (ap (λ (c : Bool). if c then stage.Taking else stage.Pulling 0) nlk) (omega arith) (omega arith)
             (sends u1 v u1.log m z es2 m (locker_at y) L 0 (Need 0) yo.1.view yk.node (ap (λ (t : View). locker_of t.members) yo.1.view) refl)))
         ev)
@@ -563,9 +514,9 @@ module _ {M : Machine} where
         let h = t.stand in
         let xat : w.nodes L ≡ Some x = t.locker in
         let xr = runs_in w v L x h ll xat in
-        let xk : NodeOk w L x = h.inv.nodes L x xat in
+        let xk : NodeOk w L x = h.sound.inv.nodes L x xat in
         let lks : joining.locks x.join ≡ true = ap (λ (t : View). is_locker t.members x.join.node) xr.view ∙ ap (λ (a : ℕ). is_locker v.members a) xk.node ∙ locker_locks v.members ll in
-        let en = h.joins.entries L x xat in
+        let en = h.sound.joins.entries L x xat in
         let inx : (n : ℕ) → 0 < inc_of v.members n → 0 < inc_of x.join.view.members n = λ n lt. subst (λ (t : View). 0 < inc_of t.members n) (sym xr.view) lt in
         let e : Event = Deliver t.ready.at Written in
         let Q : World M → Type 0 = λ u. Nearer v w0 x (m ∷ []) u in
@@ -578,7 +529,7 @@ module _ {M : Machine} where
         let out = begins_out z (Opened z.join.view.number ∷ to_each z OpenView (spread_of (members_of z))) in
         let y : NodeState M = out.0 in
         let u : World M = turned w w.log L y out.1 in
-        move w v e L x y out.1 Q refl h (ev ∙ ap (λ (r : Out M). absorb L r w) out.3) xat (ap (λ (j : ReconcileState). j.view) out.4) (ap (λ (j : ReconcileState). j.inc) out.4) (λ h1.
+        move law w v e L x y out.1 Q refl h (ev ∙ ap (λ (r : Out M). absorb L r w) out.3) xat (ap (λ (j : ReconcileState). j.view) out.4) (ap (λ (j : ReconcileState). j.inc) out.4) (λ h1.
         leads_now goes_on u Q (record {
           stand = h1;
           near = near_turned w0 w L x y out.1 t.near xat out.5;
@@ -587,7 +538,7 @@ module _ {M : Machine} where
         (λ l op all ev.
         let y : NodeState M = record x { join = joining.marked x.join m.node } in
         let u : World M = turned w w.log L y [] in
-        move w v e L x y [] Q refl h ev xat refl refl (λ h1.
+        move law w v e L x y [] Q refl h ev xat refl refl (λ h1.
         leads_now goes_on u Q (record {
           stand = h1;
           near = near_turned w0 w L x y [] t.near xat (omega arith);
@@ -663,10 +614,10 @@ module _ {M : Machine} where
             let L : ℕ = locker_of v.members in
             let z : NodeState M = wt.state in
             let zr = runs_in u v L z s ll wt.at in
-            let zk : NodeOk u L z = s.inv.nodes L z wt.at in
+            let zk : NodeOk u L z = s.sound.inv.nodes L z wt.at in
             let lks : joining.locks z.join ≡ true = ap (λ (t : View). is_locker t.members z.join.node) zr.view ∙ ap (λ (a : ℕ). is_locker v.members a) zk.node ∙ locker_locks v.members ll in
-            let rd : joining.is_ready z.join ≡ true = s.lockers L z wt.at lks (λ e. zero_view (s.shape.numbered) (ap (λ (t : View). t.number) (sym zr.view) ∙ e)) in
-            let no : joining.all_counted z.join ≡ false = s.joins.closed L z wt.at (subst (λ (t : View). Ascend 0 t.members) (sym zr.view) s.shape.ascending) lks rd wt.shut in
+            let rd : joining.is_ready z.join ≡ true = s.sound.lockers L z wt.at lks (λ e. zero_view (s.shape.numbered) (ap (λ (t : View). t.number) (sym zr.view) ∙ e)) in
+            let no : joining.all_counted z.join ≡ false = s.sound.joins.closed L z wt.at (subst (λ (t : View). Ascend 0 t.members) (sym zr.view) s.shape.ascending) lks rd wt.shut in
             let yes : joining.all_counted z.join ≡ true = ap (λ (t : View). list_all (λ (m : Member). joining.counts_ready z.join m.node) t.members) zr.view ∙ each_all (λ (a : ℕ). joining.counts_ready z.join a) v.members wt.all in
             locker_not (joining.all_counted z.join) yes no
 

@@ -8,6 +8,9 @@ use Rattle.gum_messages.specs.Places.{at_place}
 use Rattle.gum_messages.proofs.Branches.{if_cases, list_cases, option_cases}
 use Rattle.gum_messages.proofs.Placing.{get_within, place_new, place_old, place_within}
 use Rattle.gum_core.proofs.Logging.{greatest_kept, greatest_logged}
+use Rattle.cluster_laws.proofs.Guards.{both, eq_is, eq_not, le_is, lt_is, lt_not, or_either, or_left, or_right}
+use Rattle.cluster_laws.proofs.Applying.{lt_false}
+use Rattle.cluster_laws.proofs.Sound.{Sound}
 use Rattle.cluster_laws.proofs.Growth.{length_snoc}
 use Rattle.update_records.specs.Entry.{Entry}
 use Rattle.update_records.specs.declared.update.Update.{Update}
@@ -15,7 +18,8 @@ use Rattle.gum_core.specs.declared.decision.Decision.{Decision}
 use Rattle.gum_core.specs.declared.decision.Decision.TheVariants as decision
 use Rattle.gum_core.specs.declared.spreading.Spreading.{Spreading}
 use Rattle.gum_core.specs.declared.lock.Lock.{Lock}
-use Rattle.gum_core.specs.Updating.{CoreState, greatest_of, last_place}
+use Rattle.gum_core.specs.Updating.{CoreState, greatest_of}
+use Rattle.update_records.specs.Grammar.{last_place}
 use Rattle.gum_core.specs.Updating as updating
 use Rattle.view_reconcile.specs.Joining.{ReconcileState}
 use Rattle.view_reconcile.specs.Joining as joining
@@ -34,11 +38,8 @@ use Rattle.cluster_rules.specs.Progress.{Acknowledged, Leads, Rests, Runs, Serve
 use Rattle.cluster_laws.proofs.Inv.{Asked, Has, Invariant, NodeOk, Owner, OwnerOk, Stands, at_head, greatest_asked, waits}
 use Rattle.cluster_laws.proofs.Applying.{done_at, eq_true, length_some, locker_is, state_of}
 use Rattle.cluster_laws.proofs.HeadRules.{open_is_ready}
-use Rattle.cluster_laws.proofs.Going.{CoreOk, Held, Live, deliver_is, go, leads_now, leads_then, put_self, queue_less, quiet_is, sent_held, shown, shown_same, still_is, tick_is, turned}
-use Rattle.cluster_laws.proofs.Rounds.{Freed, Near, ask_tells, both, eq_is, eq_not, heard, le_is, lock_at, lock_tells, locker_locks, lt_is, mail, member_runs, near_self, near_turned, proceed_step, release_step, sends, shown_at, spread_go, spreading_at}
-
-eq_apart : (a b : ℕ) → a < b → nat_eq a b ≡ false
-eq_apart a b e = grind arith
+use Rattle.cluster_laws.proofs.Leading.{Held, Live, deliver_is, go, leads_now, leads_then, put_self, queue_less, quiet_is, sent_held, shown, shown_same, still_is, tick_is, turned}
+use Rattle.cluster_laws.proofs.Propagation.{Freed, Near, ask_tells, heard, lock_at, lock_tells, locker_locks, mail, member_runs, near_self, near_turned, proceed_step, release_step, sends, shown_at, spread_go, spreading_at}
 
 and_false : (a b : Bool) → a ≡ false → (a && b) ≡ false
 and_false true b e = cc
@@ -53,9 +54,6 @@ no a b le e = grind arith
 lower : (a b : ℕ) → a ≤ b → nat_eq a b ≡ false → a < b
 lower a b le e = grind arith
 
-lt_not : (a b : ℕ) → a ≡ b → nat_lt a b ≡ false
-lt_not a b e = grind arith
-
 pub none_or : {A : Type 0} (o : Option A) → ((a : A) → o ≡ Some a → ⊥) → o ≡ None
 none_or None f = refl
 none_or (Some a) f = absurd (f a refl)
@@ -64,40 +62,12 @@ first_of_list : (l : List Update) → 0 < length l → (u : Update) × (us : Lis
 first_of_list [] h = absurd (omega (arith, h))
 first_of_list (u ∷ us) h = (u, us, refl)
 
--- an append keeps what cores say of the order
-pub more_core : (l : Log) (e : Entry) (n : ℕ) (c : CoreState) → CoreOk l c → CoreOk (append (Some e) n l) c
-more_core l e n c h = record {
-  greatest = λ m lt g. let r = h.greatest m lt g in (r.0, record { at = place_old l.order e r.0.place r.0 r.1.at }, r.2);
-  awaits = h.awaits;
-}
-
--- the record of a request that is logged now
-pub new_core : (l : Log) (e : Entry) (n : ℕ) (c : CoreState) (m req place : ℕ) → CoreOk l c → e.place ≡ length l.order + 1 → length c.greatest ≡ length c.members → Has e m (inc_of c.members m) req → 0 < inc_of c.members m → CoreOk (append (Some e) n l) (updating.logged c m req place).0
-new_core l e n c m req place h pl ent has lm = record {
-  greatest = λ k lt g. elim (nat_eq k m) as (λ (b : Bool). nat_eq k m ≡ b → (r : Entry) × Stands (append (Some e) n l) r × Has r k (inc_of c.members k) (greatest_of (updating.logged c m req place).0 k)) [
-    | true ↦ λ same.
-        let km : k ≡ m = eq_true k m same in
-        let gr : greatest_of (updating.logged c m req place).0 k ≡ req = ap (λ (a : ℕ). greatest_of (updating.logged c m req place).0 a) km ∙ greatest_logged c m req place ent lm in
-        (e, record { at = ap (λ (a : ℕ). at_place (l.order ++ e ∷ []) a) pl ∙ place_new l.order e },
-        record { node = has.node ∙ sym km; inc = has.inc ∙ ap (λ (a : ℕ). inc_of c.members a) (sym km); req = has.req ∙ sym gr })
-    | false ↦ λ other.
-        let apart : k ≢ m = eq_false k m other in
-        let gr : greatest_of (updating.logged c m req place).0 k ≡ greatest_of c k = greatest_kept c m req place k lt apart in
-        let r = h.greatest k lt (subst (λ (a : ℕ). 0 < a) gr g) in
-        (r.0, record { at = place_old l.order e r.0.place r.0 r.1.at }, record { node = r.2.node; inc = r.2.inc; req = r.2.req ∙ sym gr })
-  ] refl;
-  awaits = h.awaits;
-}
-  where
-    eq_false : (a b : ℕ) → nat_eq a b ≡ false → a ≢ b
-    eq_false a b e = grind arith
-
 module _ {M : Machine} where
   -- A Granted at the node whose head it is
   granted_go : IsMachine M → (v : View) (w0 w : World M) (m : ℕ) (y : NodeState M) (r : Entry) (l : Lock) → Live w v → Near w0 w → Held w (mail v (locker_of v.members) m (Granted r)) → 0 < inc_of v.members m → 0 < inc_of v.members (locker_of v.members) → w.nodes m ≡ Some y → 0 < length y.core.queue → y.core.spreading ≡ None → r.id.req ≡ y.core.passed + 1 → lock_at w (locker_of v.members) ≡ Some l → l.node ≡ m → l.req ≡ y.core.passed + 1 → Leads goes_on w (λ u. Freed v w0 m 1 u)
   granted_go law v w0 w m y r l h nr hd lm ll yat some none rq lk ln lr =
       let L : ℕ = locker_of v.members in
-      let nk : NodeOk w m y = h.inv.nodes m y yat in
+      let nk : NodeOk w m y = h.stand.sound.inv.nodes m y yat in
       let op : y.core.is_open ≡ true = nk.core_open ∙ h.open_ m y lm yat in
       let asks : updating.asks_for y.core r.id.req ≡ true =
           both (nat_lt 0 (length y.core.queue) && nat_eq r.id.req (y.core.passed + 1)) (is_none y.core.spreading)
@@ -119,10 +89,10 @@ module _ {M : Machine} where
   finished_go law v w0 w m y r l h nr hd lm ll yat one left lk ln lr =
       let L : ℕ = locker_of v.members in
       let q : ℕ = r.id.req in
-      let nk : NodeOk w m y = h.inv.nodes m y yat in
+      let nk : NodeOk w m y = h.stand.sound.inv.nodes m y yat in
       let rn = member_runs w v m y h lm yat in
       let op : y.core.is_open ≡ true = nk.core_open ∙ h.open_ m y lm yat in
-      let nope : (y.core.is_open && updating.asks_for y.core q) ≡ false = off y.core.is_open (nat_lt 0 (length y.core.queue)) (nat_eq q (y.core.passed + 1)) (is_none y.core.spreading) (eq_apart q (y.core.passed + 1) (omega (arith, left))) in
+      let nope : (y.core.is_open && updating.asks_for y.core q) ≡ false = off y.core.is_open (nat_lt 0 (length y.core.queue)) (nat_eq q (y.core.passed + 1)) (is_none y.core.spreading) (eq_not q (y.core.passed + 1) (omega (arith, left))) in
       let yes : (y.core.is_open && updating.has_left y.core q) ≡ true = both y.core.is_open (updating.has_left y.core q) op (both (nat_lt 0 q) (nat_le q y.core.passed) (lt_is 0 q one) (le_is q y.core.passed left)) in
       let gr : updating.granted y.core q r.place ≡ (y.core, decision.ReleaseAgain q) =
           ap (λ (b : Bool). if b then updating.spread y.core r.place 0 else (y.core, if y.core.is_open && updating.has_left y.core q then decision.ReleaseAgain q else decision.Nothing)) nope
@@ -130,7 +100,7 @@ module _ {M : Machine} where
       let es : List Effect = Send (packet y (locker_at y) (Release q)) ∷ [] in
       let ev : happens w (Deliver hd.at Written) ≡ turned w w.log m y es =
           still_is w (mail v L m (Granted r)) y (becomes y es) hd yat (heard w v y L m (Granted r) h ll lm yat ∙ ap (λ (t : CoreState × Decision). unlogged (proceeds y r t)) gr) in
-      go law w v (Deliver hd.at Written) w.log m y y es (λ u. Freed v w0 m 0 u) refl h ev yat refl refl (λ c k. k) (h.cores m y yat)
+      go law w v (Deliver hd.at Written) w.log m y y es (λ u. Freed v w0 m 0 u) refl h ev yat refl refl
       (λ live.
       let u : World M = turned w w.log m y es in
       let n1 : Near w0 u = near_turned w0 w m y y es nr yat (omega arith) in
@@ -151,10 +121,10 @@ module _ {M : Machine} where
   pub lock_go : IsMachine M → (v : View) (w : World M) (l : Lock) → Live w v → 0 < inc_of v.members (locker_of v.members) → lock_at w (locker_of v.members) ≡ Some l → Leads goes_on w (λ u. Freed v w l.node 0 u)
   lock_go law v w l h ll lk =
       let L : ℕ = locker_of v.members in
-      let o = h.member L ll in
+      let o = h.stand.member L ll in
       let x : NodeState M = o.0 in
       let xat : w.nodes L ≡ Some x = o.1.node in
-      let xk : NodeOk w L x = h.inv.nodes L x xat in
+      let xk : NodeOk w L x = h.stand.sound.inv.nodes L x xat in
       let xl : x.core.lock ≡ Some l = sym (shown_at (λ (t : NodeState M). t.core.lock) None w L x xat) ∙ lk in
       let f = xk.lock l xl in
       let r : Entry = f.2 in
@@ -163,18 +133,18 @@ module _ {M : Machine} where
       let last : x.last ≡ Some r = xk.last s.0 s.1 ∙ ap (λ (k : ℕ). at_place w.log.order k) (sym (done_at x s.0 s.1)) ∙ f.3 in
       let m : ℕ = l.node in
       let rinc : r.id.inc ≡ inc_of v.members m = f.6 ∙ ap (λ (t : View). inc_of t.members m) o.1.view in
-      let lg = h.inv.log.logged r st in
+      let lg = h.stand.sound.inv.log.logged r st in
       let lm : 0 < inc_of v.members m = subst (λ (a : ℕ). 0 < a) rinc lg.3 in
-      let yo = h.member m lm in
+      let yo = h.stand.member m lm in
       let y : NodeState M = yo.0 in
       let yat : w.nodes m ≡ Some y = yo.1.node in
-      let ak = h.inv.log.asked r st in
+      let ak = h.stand.sound.inv.log.asked r st in
       let qa : r.id.req ≤ greatest_asked y = ak.1.asks y (ap w.nodes f.5 ∙ yat) (yo.1.inc ∙ sym rinc) in
       let ask : 1 ≤ r.id.req = ak.0 in
       let tk = lock_tells x l r xl last in
       let es : List Effect = (tick x).effects in
       let u : World M = turned w w.log L x es in
-      go law w v (Tick L) w.log L x x es (λ u. Freed v w m 0 u) refl h (tick_is w L x xat) xat refl refl (λ c k. k) (h.cores L x xat)
+      go law w v (Tick L) w.log L x x es (λ u. Freed v w m 0 u) refl h (tick_is w L x xat) xat refl refl
       (λ live.
       let n1 : Near w u = near_turned w w L x x es (near_self w) xat (omega arith) in
       let hd : Held u (mail v L m (Granted r)) = sends w v w.log L x es L m m tk.0 (Granted r) o.1.view xk.node refl tk.1 in
@@ -209,9 +179,9 @@ module _ {M : Machine} where
   pub owned : (w : World M) (v : View) → Live w v → 0 < inc_of v.members (locker_of v.members) → Owned w v
   owned w v h ll =
       let L : ℕ = locker_of v.members in
-      let o = h.member L ll in
+      let o = h.stand.member L ll in
       let x : NodeState M = o.0 in
-      let nk : NodeOk w L x = h.inv.nodes L x o.1.node in
+      let nk : NodeOk w L x = h.stand.sound.inv.nodes L x o.1.node in
       let op : joining.is_open x.join ≡ true = h.open_ L x ll o.1.node in
       let mem : x.core.members ≡ v.members = nk.core_members ∙ ap (λ (t : View). t.members) o.1.view in
       let lks : joining.locks x.join ≡ true =
@@ -224,7 +194,7 @@ module _ {M : Machine} where
         locks = ap (λ (ms : List Member). is_locker ms x.core.node) mem ∙ ap (λ (a : ℕ). is_locker v.members a) nk.core_node ∙ locker_locks v.members ll;
         members = mem;
         join_open = op;
-        owner = h.inv.owner L x (record { runs = o.1.node; ready = open_is_ready x.join op; locker = lks; held = ap (λ (t : View). t.number) o.1.view ∙ sym h.held });
+        owner = h.stand.sound.inv.owner L x (record { runs = o.1.node; ready = open_is_ready x.join op; locker = lks; held = ap (λ (t : View). t.number) o.1.view ∙ sym h.stand.held });
       }
 
   asked_most : (y : NodeState M) (q : ℕ) → q ≤ greatest_asked y → q ≤ y.core.passed + 1
@@ -235,7 +205,7 @@ module _ {M : Machine} where
   head_free w v m y r h lm ll yat some lk st has =
       let ow = owned w v h ll in
       let yr = member_runs w v m y h lm yat in
-      let yk : NodeOk w m y = h.inv.nodes m y yat in
+      let yk : NodeOk w m y = h.stand.sound.inv.nodes m y yat in
       let mo = ow.owner.members ow.join_open m y yat (ap (λ (t : View). inc_of t.members m) ow.runs.view ∙ sym yr.inc) in
       let k = mo.heads r (length_some y.core.queue some, yk.unsettled (h.open_ m y lm yat)) st has in
       let free : ow.node.core.lock ≡ None = sym (shown_at (λ (t : NodeState M). t.core.lock) None w (locker_of v.members) ow.node ow.runs.node) ∙ lk in
@@ -256,30 +226,30 @@ module _ {M : Machine} where
       let L : ℕ = locker_of v.members in
       let q : ℕ = y.core.passed + 1 in
       let yr = member_runs w v m y h lm yat in
-      let yk : NodeOk w m y = h.inv.nodes m y yat in
+      let yk : NodeOk w m y = h.stand.sound.inv.nodes m y yat in
       let f = first_of_list y.core.queue some in
       let a : Update = f.0 in
       let none : y.core.spreading ≡ None = none_or y.core.spreading (λ s sp. let t = yk.spreading s sp in head_free w v m y t.0 h lm ll yat some lk (record { at = t.4.at }) t.5) in
       let tk = ask_tells y a f.1 (yk.core_open ∙ h.open_ m y lm yat) f.2 none in
       let es1 : List Effect = (tick y).effects in
       let u1 : World M = turned w w.log m y es1 in
-      go law w v (Tick m) w.log m y y es1 (λ t. Round v w m t) refl h (tick_is w m y yat) yat refl refl (λ c k. k) (h.cores m y yat)
+      go law w v (Tick m) w.log m y y es1 (λ t. Round v w m t) refl h (tick_is w m y yat) yat refl refl
       (λ h1.
       let hd1 : Held u1 (mail v m L (Ask q a)) = sends w v w.log m y es1 m (locker_at y) L tk.0 (Ask q a) yr.view yk.node (ap (λ (t : View). locker_of t.members) yr.view) tk.1 in
       let lk1 : lock_at u1 L ≡ None = shown_same (λ (t : NodeState M). t.core.lock) None w.nodes m y y yat refl L ∙ lk in
       let ow = owned u1 v h1 ll in
       let x : NodeState M = ow.node in
       let xat : u1.nodes L ≡ Some x = ow.runs.node in
-      let xk : NodeOk u1 L x = h1.inv.nodes L x xat in
-      let xc : CoreOk u1.log x.core = h1.cores L x xat in
+      let xk : NodeOk u1 L x = h1.stand.sound.inv.nodes L x xat in
+      let xc = h1.stand.sound.cores L x xat in
       let y1 : u1.nodes m ≡ Some y = put_self w.nodes m (Some y) in
-      let yk1 : NodeOk u1 m y = h1.inv.nodes m y y1 in
+      let yk1 : NodeOk u1 m y = h1.stand.sound.inv.nodes m y y1 in
       let inc : inc_of x.core.members m ≡ y.join.inc = ap (λ (ms : List Member). inc_of ms m) ow.members ∙ sym yr.inc in
       let lx : 0 < inc_of x.core.members m = subst (λ (ms : List Member). 0 < inc_of ms m) (sym ow.members) lm in
       let free : x.core.lock ≡ None = sym (shown_at (λ (t : NodeState M). t.core.lock) None u1 L x xat) ∙ lk1 in
       let low : greatest_of x.core m < q = below (greatest_of x.core m) y.core.passed (λ pos.
           let r = xc.greatest m lx pos in
-          let ak = (h1.inv.log.asked r.0 r.1).1.asks y (ap u1.nodes r.2.node ∙ y1) (sym (r.2.inc ∙ inc)) in
+          let ak = (h1.stand.sound.inv.log.asked r.0 r.1).1.asks y (ap u1.nodes r.2.node ∙ y1) (sym (r.2.inc ∙ inc)) in
           let le : greatest_of x.core m ≤ y.core.passed + 1 = subst (λ (b : ℕ). b ≤ y.core.passed + 1) r.2.req (asked_most y r.0.id.req ak) in
           (le, λ eq. head_free u1 v m y r.0 h1 lm ll y1 some lk1 r.1 (record { node = r.2.node; inc = r.2.inc ∙ inc; req = r.2.req ∙ eq }))) in
       let dn : done_of x ≡ length u1.log.order = ow.owner.all_done in
@@ -293,7 +263,7 @@ module _ {M : Machine} where
       let z : NodeState M = has_logged x e in
       let es2 : List Effect = Send (packet z m (Granted e)) ∷ [] in
       let d : Logged M = record { out = becomes z es2; appended = Some e; doubtful = None } in
-      let held : u1.log.held ≡ number_of x = h1.held ∙ ap (λ (t : View). t.number) (sym ow.runs.view) in
+      let held : u1.log.held ≡ number_of x = h1.stand.held ∙ ap (λ (t : View). t.number) (sym ow.runs.view) in
       let wr : writes x e u1.log.held Written ≡ d = ap (λ (b : Bool). if b then unlogged (halts (halt.Fenced u1.log.held)) else d) (lt_not (number_of x) u1.log.held (sym held)) in
       let rc : receive x (mail v m L (Ask q a)) u1.log.held Written ≡ d = heard u1 v x m L (Ask q a) h1 lm ll xat ∙ ap (λ (t : Decision). answers x a u1.log.held Written t) as_ ∙ wr in
       let l2 : Log = append (Some e) (number_of x) u1.log in
@@ -301,10 +271,10 @@ module _ {M : Machine} where
       let ev : happens u1 (Deliver hd1.at Written) ≡ u2 = deliver_is u1 (mail v m L (Ask q a)) x hd1 xat ∙ ap (λ (t : Logged M). absorb L t.out (logs (number_of x) t u1)) rc in
       let pl : e.place ≡ length u1.log.order + 1 = ap (λ (b : ℕ). b + 1) dn in
       let has : Has e m (inc_of x.core.members m) q = record { node = refl; inc = ap (λ (ms : List Member). inc_of ms m) (sym xk.core_members); req = refl } in
-      go law u1 v (Deliver hd1.at Written) l2 L x z es2 (λ t. Round v w m t) refl h1 ev xat refl refl (more_core u1.log e (number_of x)) (new_core u1.log e (number_of x) x.core m q e.place xc pl xk.entries has lx)
+      go law u1 v (Deliver hd1.at Written) l2 L x z es2 (λ t. Round v w m t) refl h1 ev xat refl refl
       (λ h2.
       let hd2 : Held u2 (mail v L m (Granted e)) = sends u1 v l2 L z es2 L m m 0 (Granted e) ow.runs.view xk.node refl refl in
-      let yo = h2.member m lm in
+      let yo = h2.stand.member m lm in
       let b : NodeState M = yo.0 in
       let bq : b.core.queue ≡ y.core.queue = sym (shown_at (λ (t : NodeState M). t.core.queue) [] u2 m b yo.1.node) ∙ shown_same (λ (t : NodeState M). t.core.queue) [] u1.nodes L x z xat refl m ∙ shown_at (λ (t : NodeState M). t.core.queue) [] u1 m y y1 in
       let bp : b.core.passed ≡ y.core.passed = sym (shown_at (λ (t : NodeState M). t.core.passed) 0 u2 m b yo.1.node) ∙ shown_same (λ (t : NodeState M). t.core.passed) 0 u1.nodes L x z xat refl m ∙ shown_at (λ (t : NodeState M). t.core.passed) 0 u1 m y y1 in

@@ -1,27 +1,22 @@
 -- What a world can still come to, where messages get through, the disk answers and nobody dies.
-use Rattle.std.specs.Prelude.{◌≡◌, ℕ, ◌+◌, ◌<◌, ◌≤◌, Bool, true, false, ◌||◌, List, [], ◌∷◌, length, Option, Some, None}
+use Rattle.std.specs.Prelude.{◌≡◌, ℕ, ◌+◌, ◌<◌, ◌≤◌, Bool, true, false, List, [], ◌∷◌, length, Option, Some, None}
 use Rattle.std.specs.List.{list_all}
 use Rattle.gum_messages.specs.declared.member.Member.{Member}
 use Rattle.gum_messages.specs.declared.view.View.{View}
 use Rattle.gum_messages.specs.Members.{inc_of}
 use Rattle.gum_messages.specs.Places.{at_place}
-use Rattle.gum_messages.specs.Views.{IsView}
 use Rattle.update_records.specs.Entry.{Entry}
-use Rattle.gum_core.specs.Updating.{last_place}
+use Rattle.update_records.specs.Grammar.{last_place}
+use Rattle.view_reconcile.specs.Chains.{view_in}
 use Rattle.view_reconcile.specs.Joining as joining
-use Rattle.view_reconcile.specs.Chains.{has_left}
 use Rattle.cluster_rules.specs.Machines.{Machine}
 use Rattle.cluster_rules.specs.Nodes.{NodeState}
 use Rattle.cluster_rules.specs.Updates.{Written}
-use Rattle.cluster_rules.specs.Worlds.{Declare, Deliver, Event, Install, Recovered, Start, Tick, World, run}
+use Rattle.cluster_rules.specs.Worlds.{Deliver, Event, Tick, World, run}
 
 -- A message is delivered, where the log takes the record; a node repeats what it waits for.
 abbrev pub goes_on : Event → Bool
 goes_on e = elim e [ Deliver k answer ↦ elim answer [ Written ↦ true | _ ↦ false ] | Tick n ↦ true | _ ↦ false ]
-
--- Also a node starts, a view is declared, or taken with a log that can be recovered.
-abbrev pub joins_again : Event → Bool
-joins_again e = goes_on e || elim e [ Start n ↦ true | Declare v ↦ true | Install n v opening ↦ elim opening [ Recovered found ↦ true | _ ↦ false ] | _ ↦ false ]
 
 -- A member of a view runs in it.
 pub record Runs {M : Machine} (w : World M) (v : View) (n : ℕ) (x : NodeState M) : Type 0 where
@@ -29,9 +24,9 @@ pub record Runs {M : Machine} (w : World M) (v : View) (n : ℕ) (x : NodeState 
   pub inc : x.join.inc ≡ inc_of v.members n
   pub view : x.join.view ≡ v
 
--- A view stands: it is the last one whose log was recovered, and each of its members runs in it.
+-- A declared view stands: it is the last one that claimed the log, and each of its members runs in it.
 pub record Standing {M : Machine} (w : World M) (v : View) : Type 0 where
-  pub shape : IsView v
+  pub declared : view_in w.chain v.number ≡ Some v
   pub held : w.log.held ≡ v.number
   pub member : (n : ℕ) → 0 < inc_of v.members n → (x : NodeState M) × Runs w v n x
 
@@ -79,13 +74,3 @@ pub record Leads {M : Machine} (kind : Event → Bool) (w : World M) (Q : World 
 -- No reachable world is stuck: where a view stands, deliveries and ticks alone serve each request.
 abbrev pub Unstuck : {M : Machine} → World M → Type 0
 Unstuck w = (v : View) → Standing w v → has_room w v → Leads goes_on w (λ u. Served u v)
-
--- A view in which every node stands and is open that ran before and had not left the views.
-pub record Gathered {M : Machine} (before w : World M) (v : View) : Type 0 where
-  pub standing : Standing w v
-  pub open_ : (n : ℕ) (x : NodeState M) → 0 < inc_of v.members n → w.nodes n ≡ Some x → joining.is_open x.join ≡ true
-  pub all : (n : ℕ) (x : NodeState M) → 1 ≤ n → n ≤ 16 → before.nodes n ≡ Some x → has_left before.chain (record { node = n; inc = x.join.inc }) ≡ false → inc_of v.members n ≡ x.join.inc
-
--- From every reachable world there is a way into a view.
-abbrev pub Rejoins : {M : Machine} → World M → Type 0
-Rejoins w = ((k : ℕ) (v : View) → at_place w.chain k ≡ Some v → IsView v) → Leads joins_again w (λ u. (v : View) × Gathered w u v)

@@ -30,29 +30,14 @@ use Rattle.cluster_rules.specs.Joins.{tick_join}
 use Rattle.cluster_rules.specs.Receiving.{counts, hears, receive, tick}
 use Rattle.cluster_rules.specs.Worlds.{Deliver, Event, Log, Tick, World, absorb, happens, put, sent}
 use Rattle.cluster_rules.specs.Progress.{Leads, Runs, goes_on, queue_at, waiting}
+use Rattle.cluster_laws.proofs.Guards.{both, eq_is, eq_not, le_is, lt_is, lt_not, or_either, or_left, or_right}
+use Rattle.cluster_laws.proofs.Applying.{lt_false}
+use Rattle.cluster_laws.proofs.Sound.{Sound}
 use Rattle.cluster_laws.proofs.Inv.{Has, Invariant, NodeOk, Owner, Stands}
 use Rattle.cluster_laws.proofs.Moves.{slice_get_append, slice_get_back, slice_get_front}
 use Rattle.cluster_laws.proofs.Opening.{sent_append}
 use Rattle.cluster_laws.proofs.HeadRules.{open_is_ready}
-use Rattle.cluster_laws.proofs.Going.{CoreOk, Held, Live, go, leads_now, put_self, queue_less, quiet_is, still_is, sent_held, shown, shown_same, tick_is, turned}
-
--- Guards that hold
-pub both : (a b : Bool) → a ≡ true → b ≡ true → (a && b) ≡ true
-both true true p q = refl
-both false b p q = cc
-both true false p q = cc
-
-pub eq_is : (a b : ℕ) → a ≡ b → nat_eq a b ≡ true
-eq_is a b e = grind arith
-
-pub eq_not : (a b : ℕ) → a < b → nat_eq a b ≡ false
-eq_not a b e = grind arith
-
-pub lt_is : (a b : ℕ) → a < b → nat_lt a b ≡ true
-lt_is a b e = grind arith
-
-pub le_is : (a b : ℕ) → a ≤ b → nat_le a b ≡ true
-le_is a b e = grind arith
+use Rattle.cluster_laws.proofs.Leading.{Held, Live, go, leads_now, put_self, queue_less, quiet_is, still_is, sent_held, shown, shown_same, tick_is, turned}
 
 -- Members
 pub locker_locks : (ms : List Member) → 0 < inc_of ms (locker_of ms) → is_locker ms (locker_of ms) ≡ true
@@ -153,7 +138,7 @@ module _ {M : Machine} where
   -- What is known of a member
   pub member_runs : (w : World M) (v : View) (n : ℕ) (x : NodeState M) → Live w v → 0 < inc_of v.members n → w.nodes n ≡ Some x → Runs w v n x
   member_runs w v n x h lt at =
-      let o = h.member n lt in
+      let o = h.stand.member n lt in
       let q : Some o.0 ≡ Some x = sym o.1.node ∙ at in
       let same : o.0 ≡ x = cc in
       record { node = at; inc = ap (λ (t : NodeState M). t.join.inc) (sym same) ∙ o.1.inc; view = ap (λ (t : NodeState M). t.join.view) (sym same) ∙ o.1.view }
@@ -208,10 +193,10 @@ module _ {M : Machine} where
   pub release_step : IsMachine M → (v : View) (w0 w : World M) (m req some : ℕ) (l : Lock) → Live w v → Near w0 w → Held w (mail v m (locker_of v.members) (Release req)) → 0 < inc_of v.members m → 0 < inc_of v.members (locker_of v.members) → lock_at w (locker_of v.members) ≡ Some l → l.node ≡ m → l.req ≡ req → queue_at w m + some ≤ queue_at w0 m → Leads goes_on w (λ u. Freed v w0 m some u)
   release_step law v w0 w m req some l h nr hd lm ll lk ln lr less =
       let L : ℕ = locker_of v.members in
-      let o = h.member L ll in
+      let o = h.stand.member L ll in
       let x : NodeState M = o.0 in
       let at : w.nodes L ≡ Some x = o.1.node in
-      let nk : NodeOk w L x = h.inv.nodes L x at in
+      let nk : NodeOk w L x = h.stand.sound.inv.nodes L x at in
       let y : NodeState M = record x { core = record x.core { lock = None } } in
       let xl : x.core.lock ≡ Some l = sym (shown_at (λ (t : NodeState M). t.core.lock) None w L x at) ∙ lk in
       let held : updating.is_held x.core m req ≡ true =
@@ -223,8 +208,7 @@ module _ {M : Machine} where
       let rs : updating.released x.core m req ≡ (record x.core { lock = None }, decision.Free) = ap (λ (b : Bool). if b then (record x.core { lock = None }, decision.Free) else (x.core, decision.Nothing)) (both (updating.locks x.core) (updating.is_held x.core m req) lks held) in
       let rl : (updating.released x.core m req).0 ≡ record x.core { lock = None } = ap (λ (t : CoreState × Decision). t.0) rs in
       let r : receive x (mail v m L (Release req)) w.log.held Written ≡ unlogged (becomes y []) = heard w v x m L (Release req) h lm ll at ∙ ap (λ (c : CoreState). unlogged (nothing (record x { core = c }))) rl in
-      let co : CoreOk w.log x.core = h.cores L x at in
-      go law w v (Deliver hd.at Written) w.log L x y [] (λ u. Freed v w0 m some u) refl h (quiet_is w (mail v m L (Release req)) x y [] hd at r) at refl refl (λ z c. c) (record { greatest = co.greatest; awaits = co.awaits })
+      go law w v (Deliver hd.at Written) w.log L x y [] (λ u. Freed v w0 m some u) refl h (quiet_is w (mail v m L (Release req)) x y [] hd at r) at refl refl
       (λ live.
       let u : World M = turned w w.log L y [] in
       let q : queue_at u m ≤ queue_at w m = queue_less w.nodes L x y at (omega arith) m in
@@ -245,15 +229,14 @@ module _ {M : Machine} where
   proceed_step law v w0 w m y r at l e h nr lm ll yat some lk ln lr g ev again =
       let L : ℕ = locker_of v.members in
       let rn = member_runs w v m y h lm yat in
-      let nk : NodeOk w m y = h.inv.nodes m y yat in
-      let co : CoreOk w.log y.core = h.cores m y yat in
+      let nk : NodeOk w m y = h.stand.sound.inv.nodes m y yat in
       option_cases (λ (t : CoreState × Decision). happens w e ≡ absorb m (proceeds y r t) w → Leads goes_on w (λ u. Freed v w0 m 1 u)) (updating.receiver y.core at) (updating.finished y.core r.place) (λ to. (record y.core { spreading = Some (record { place = r.place; at = at }) }, decision.Spread to r.place))
       (λ none ev.
       let z : NodeState M = without_head y (updating.finished y.core r.place).0 in
       let next : Option ℕ = if nat_lt 1 (length y.core.queue) then Some (y.core.passed + 2) else None in
       let es : List Effect = Acked (number_of y) r.place ∷ Send (packet z (locker_at y) (Release (y.core.passed + 1))) ∷ asks z next in
       let less : length z.core.queue + 1 ≤ length y.core.queue = drop_less y.core.queue some in
-      go law w v e w.log m y z es (λ u. Freed v w0 m 1 u) g h ev yat refl refl (λ c k. k) (record { greatest = co.greatest; awaits = λ s n. absurd (cc) })
+      go law w v e w.log m y z es (λ u. Freed v w0 m 1 u) g h ev yat refl refl
       (λ live.
       let u : World M = turned w w.log m z es in
       let hd : Held u (mail v m L (Release (y.core.passed + 1))) = sends w v w.log m z es m (locker_at y) L 0 (Release (y.core.passed + 1)) rn.view nk.node (ap (λ (t : View). locker_of t.members) rn.view) refl in
@@ -263,10 +246,7 @@ module _ {M : Machine} where
       release_step law v w0 u m (y.core.passed + 1) 1 l live (near_turned w0 w m y z es nr yat (omega (arith, less))) hd lm ll (shown_same (λ (t : NodeState M). t.core.lock) None w.nodes m y z yat refl L ∙ lk) ln lr (omega (arith, less, here, was, few))))
       (λ to rc ev.
       let z : NodeState M = spreading_at y r at in
-      go law w v e w.log m y z (Send (packet z to (Apply r)) ∷ []) (λ u. Freed v w0 m 1 u) g h ev yat refl refl (λ c k. k) (record {
-        greatest = co.greatest;
-        awaits = λ s n. (to, let q : record { place = r.place; at = at } ≡ s = cc in subst (λ (t : Spreading). updating.receiver y.core t.at ≡ Some to) q rc);
-      }) (λ live. again to rc live))
+      go law w v e w.log m y z (Send (packet z to (Apply r)) ∷ []) (λ u. Freed v w0 m 1 u) g h ev yat refl refl (λ live. again to rc live))
       ev
 
   -- A member applies the record behind its last one, or has applied it
@@ -281,16 +261,16 @@ module _ {M : Machine} where
   pub near_end : (w : World M) (v : View) (to : ℕ) (z : NodeState M) (r : Entry) → Live w v → 0 < inc_of v.members (locker_of v.members) → 0 < inc_of v.members to → w.nodes to ≡ Some z → Stands w.log r → r.place ≤ done_of z + 1
   near_end w v to z r h ll lt zat st =
       let L : ℕ = locker_of v.members in
-      let o = h.member L ll in
+      let o = h.stand.member L ll in
       let x : NodeState M = o.0 in
-      let nk : NodeOk w L x = h.inv.nodes L x o.1.node in
+      let nk : NodeOk w L x = h.stand.sound.inv.nodes L x o.1.node in
       let op : joining.is_open x.join ≡ true = h.open_ L x ll o.1.node in
       let lks : joining.locks x.join ≡ true =
           ap (λ (t : View). is_locker t.members x.join.node) o.1.view
           ∙ ap (λ (a : ℕ). is_locker v.members a) nk.node ∙ locker_locks v.members ll in
-      let ow : Owner w L x = record { runs = o.1.node; ready = open_is_ready x.join op; locker = lks; held = ap (λ (t : View). t.number) o.1.view ∙ sym h.held } in
+      let ow : Owner w L x = record { runs = o.1.node; ready = open_is_ready x.join op; locker = lks; held = ap (λ (t : View). t.number) o.1.view ∙ sym h.stand.held } in
       let zr = member_runs w v to z h lt zat in
-      let mo = (h.inv.owner L x ow).members op to z zat (ap (λ (t : View). inc_of t.members to) o.1.view ∙ sym zr.inc) in
+      let mo = (h.stand.sound.inv.owner L x ow).members op to z zat (ap (λ (t : View). inc_of t.members to) o.1.view ∙ sym zr.inc) in
       let near : length w.log.order ≤ done_of z + 1 = mo.near in
       let here = place_within w.log.order r.place r st.at in
       omega (arith, near, here.1)
@@ -310,11 +290,11 @@ module _ {M : Machine} where
   awaited : (w : World M) (v : View) (m : ℕ) (y : NodeState M) (s : Spreading) → Live w v → 0 < inc_of v.members m → w.nodes m ≡ Some y → y.core.spreading ≡ Some s → (to : ℕ) × (updating.receiver y.core s.at ≡ Some to) × (0 < inc_of v.members to) × (is_locker v.members to ≡ false) × (s.at < length (spread_of v.members))
   awaited w v m y s h lm yat sp =
       let rn = member_runs w v m y h lm yat in
-      let mem : y.core.members ≡ v.members = (h.inv.nodes m y yat).core_members ∙ ap (λ (t : View). t.members) rn.view in
-      let aw = (h.cores m y yat).awaits s sp in
+      let mem : y.core.members ≡ v.members = (h.stand.sound.inv.nodes m y yat).core_members ∙ ap (λ (t : View). t.members) rn.view in
+      let aw = (h.stand.sound.cores m y yat).awaits s sp in
       let rs = receiver_says y.core s.at aw.0 aw.1 in
       let there : slice_get (spread_of v.members) s.at ≡ Some rs.0 = ap (λ (ms : List Member). slice_get (spread_of ms) s.at) (sym mem) ∙ rs.1 in
-      let sm = spread_member v.members s.at rs.0 h.shape.ascending there in
+      let sm = spread_member v.members s.at rs.0 h.stand.shape.ascending there in
       (aw.0, aw.1, subst (λ (a : ℕ). 0 < inc_of v.members a) rs.2 sm.0, ap (λ (a : ℕ). is_locker v.members a) (sym rs.2) ∙ sm.1, get_within (spread_of v.members) s.at rs.0 there)
 
   -- The record that spreads comes to each member, and the lock is released
@@ -324,12 +304,11 @@ module _ {M : Machine} where
       absurd (omega (arith, bound, aw.4))
   spread_go (suc j) law v w0 w m y s l h nr lm ll yat some sp lk ln lr bound =
       let L : ℕ = locker_of v.members in
-      let nk : NodeOk w m y = h.inv.nodes m y yat in
+      let nk : NodeOk w m y = h.stand.sound.inv.nodes m y yat in
       let rn = member_runs w v m y h lm yat in
       let f = nk.spreading s sp in
       let r : Entry = f.0 in
       let st : Stands w.log r = record { at = f.4.at } in
-      let co : CoreOk w.log y.core = h.cores m y yat in
       let aw = awaited w v m y s h lm yat sp in
       let to : ℕ = aw.0 in
       let lto : 0 < inc_of v.members to = aw.2 in
@@ -337,13 +316,13 @@ module _ {M : Machine} where
       let copen : y.core.is_open ≡ true = nk.core_open ∙ h.open_ m y lm yat in
       let tk = apply_tells y s to r copen some sp aw.1 f.1 in
       let u1 : World M = turned w w.log m y (tick y).effects in
-      go law w v (Tick m) w.log m y y (tick y).effects (λ u. Freed v w0 m 1 u) refl h (tick_is w m y yat) yat refl refl (λ c k. k) co
+      go law w v (Tick m) w.log m y y (tick y).effects (λ u. Freed v w0 m 1 u) refl h (tick_is w m y yat) yat refl refl
       (λ h1.
       let n1 : Near w0 u1 = near_turned w0 w m y y (tick y).effects nr yat (omega arith) in
       let hd1 : Held u1 (mail v m to (Apply r)) = sends w v w.log m y (tick y).effects m to to tk.0 (Apply r) rn.view nk.node refl tk.1 in
-      let zo = h1.member to lto in
+      let zo = h1.stand.member to lto in
       let z : NodeState M = zo.0 in
-      let zk : NodeOk u1 to z = h1.inv.nodes to z zo.1.node in
+      let zk : NodeOk u1 to z = h1.stand.sound.inv.nodes to z zo.1.node in
       let zop : joining.is_open z.join ≡ true = h1.open_ to z lto zo.1.node in
       let znl : joining.locks z.join ≡ false = ap (λ (t : View). is_locker t.members z.join.node) zo.1.view ∙ ap (λ (a : ℕ). is_locker v.members a) zk.node ∙ nlk in
       let ne : r.place ≤ done_of z + 1 = near_end u1 v to z r h1 ll lto zo.1.node st in
@@ -353,13 +332,13 @@ module _ {M : Machine} where
       let u2 : World M = turned u1 u1.log to t es2 in
       let q2 : queue_at u2 to ≡ queue_at u2 to = refl in
       let tl : length t.core.queue ≤ length z.core.queue = let e : length t.core.queue ≡ length z.core.queue = ap (λ (c : CoreState). length c.queue) ao.3 in omega (arith, e) in
-      go law u1 v (Deliver hd1.at Written) u1.log to z t es2 (λ u. Freed v w0 m 1 u) refl h1 (still_is u1 (mail v m to (Apply r)) z (becomes t es2) hd1 zo.1.node (heard u1 v z m to (Apply r) h1 lm lto zo.1.node ∙ ap (λ (o : Out M). unlogged o) ao.1)) zo.1.node ao.2 refl (λ c k. k) (subst (λ (c : CoreState). CoreOk u1.log c) (sym ao.3) (h1.cores to z zo.1.node))
+      go law u1 v (Deliver hd1.at Written) u1.log to z t es2 (λ u. Freed v w0 m 1 u) refl h1 (still_is u1 (mail v m to (Apply r)) z (becomes t es2) hd1 zo.1.node (heard u1 v z m to (Apply r) h1 lm lto zo.1.node ∙ ap (λ (o : Out M). unlogged o) ao.1)) zo.1.node ao.2 refl
       (λ h2.
       let n2 : Near w0 u2 = near_turned w0 u1 to z t es2 n1 zo.1.node tl in
       let tv : t.join.view ≡ v = ap (λ (j : ReconcileState). j.view) ao.2 ∙ zo.1.view in
       let tn : t.join.node ≡ to = ap (λ (j : ReconcileState). j.node) ao.2 ∙ zk.node in
       let hd2 : Held u2 (mail v to m (Applied r.place)) = sends u1 v u1.log to t es2 to m m 0 (Applied r.place) tv tn refl refl in
-      let yo = h2.member m lm in
+      let yo = h2.stand.member m lm in
       let b : NodeState M = yo.0 in
       let bc : b.core ≡ y.core =
           let e1 : shown (λ (a : NodeState M). a.core) y.core (u2.nodes m) ≡ shown (λ (a : NodeState M). a.core) y.core (u1.nodes m) = shown_same (λ (a : NodeState M). a.core) y.core u1.nodes to z t zo.1.node ao.3 m in

@@ -7,16 +7,19 @@ use Rattle.gum_messages.proofs.Branches.{if_cases, option_cases}
 use Rattle.update_records.specs.Entry.{Entry}
 use Rattle.update_records.specs.declared.update.Update.{Update}
 use Rattle.gum_core.specs.declared.lock.Lock.{Lock}
-use Rattle.gum_core.specs.Updating.{last_place}
+use Rattle.update_records.specs.Grammar.{last_place}
 use Rattle.view_reconcile.specs.Joining as joining
 use Rattle.cluster_rules.specs.Machines.{Machine, IsMachine}
 use Rattle.cluster_rules.specs.Nodes.{NodeState}
 use Rattle.cluster_rules.specs.Worlds.{Log, World}
 use Rattle.cluster_rules.specs.Progress.{Acknowledged, Leads, Rests, Runs, Served, goes_on, queue_at, waiting}
+use Rattle.cluster_laws.proofs.Guards.{both, eq_is, eq_not, le_is, lt_is, lt_not, or_either, or_left, or_right}
+use Rattle.cluster_laws.proofs.Applying.{lt_false}
+use Rattle.cluster_laws.proofs.Sound.{Sound}
 use Rattle.cluster_laws.proofs.Inv.{Invariant, NodeOk}
 use Rattle.cluster_laws.proofs.Applying.{eq_true, locker_is}
-use Rattle.cluster_laws.proofs.Going.{Live, leads_now, leads_then, shown}
-use Rattle.cluster_laws.proofs.Rounds.{Freed, above, lock_at, member_runs, shown_at}
+use Rattle.cluster_laws.proofs.Leading.{Live, leads_now, leads_then, shown}
+use Rattle.cluster_laws.proofs.Propagation.{Freed, above, lock_at, member_runs, shown_at}
 use Rattle.cluster_laws.proofs.Serving.{Round, ask_go, lock_go, none_or}
 
 empty_list : {A : Type 0} (l : List A) → length l ≡ 0 → l ≡ []
@@ -77,7 +80,7 @@ module _ {M : Machine} where
       (λ (z : waiting w v.members ≡ 0). leads_now goes_on w (λ t. Done v w t) (record { live = h; requests = refl; free = free; empty = z }))
       (λ (p : (n : ℕ) × (0 < inc_of v.members n) × (0 < queue_at w n)).
       let m : ℕ = p.0 in
-      let o = h.member m p.1 in
+      let o = h.stand.member m p.1 in
       let y : NodeState M = o.0 in
       let some : 0 < length y.core.queue = subst (λ (a : ℕ). 0 < a) (shown_at (λ (t : NodeState M). length t.core.queue) 0 w m y o.1.node) p.2 in
       let has : queue_at w m ≤ waiting w v.members = waiting_has w v.members m p.1 in
@@ -88,15 +91,15 @@ module _ {M : Machine} where
       let od : length t.log.order ≤ length w.log.order + 1 = r.order in
       leads_then goes_on t (λ u. Done v t u) (λ u. Done v w u) (serve k law v t r.live ll r.free (omega (arith, lt, few)) (omega (arith, lt, od, room)))
       (λ u d. leads_now goes_on u (λ u. Done v w u) (record { live = d.live; requests = d.requests ∙ r.requests; free = d.free; empty = d.empty }))))
-      (waiting_find w v v.members (λ j t e. (above 0 v.members j t h.shape.ascending e).1))
+      (waiting_find w v v.members (λ j t e. (above 0 v.members j t h.stand.shape.ascending e).1))
 
   -- What is done is served
   pub done_served : (v : View) (w t : World M) → Done v w t → Served t v
   done_served v w t d = record {
     rests = λ n lt.
-        let o = d.live.member n lt in
+        let o = d.live.stand.member n lt in
         let x : NodeState M = o.0 in
-        let nk : NodeOk t n x = d.live.inv.nodes n x o.1.node in
+        let nk : NodeOk t n x = d.live.stand.sound.inv.nodes n x o.1.node in
         record {
           state = x;
           runs = o.1;
@@ -110,18 +113,18 @@ module _ {M : Machine} where
               cc);
         };
     acked = λ n q lt one le.
-        let o = d.live.member n lt in
+        let o = d.live.stand.member n lt in
         let x : NodeState M = o.0 in
-        let nk : NodeOk t n x = d.live.inv.nodes n x o.1.node in
+        let nk : NodeOk t n x = d.live.stand.sound.inv.nodes n x o.1.node in
         let all : length (t.requests n (inc_of v.members n)) ≡ x.core.passed + length x.core.queue = ap (λ (i : ℕ). length (t.requests n i)) (sym o.1.inc) ∙ nk.all_requests in
         let none : length x.core.queue ≡ 0 = ap (λ (l : List Update). length l) (idle n lt) in
         let f = nk.finished q one (omega (arith, le, all, none)) in
         record { record_ = f.0; stands = f.3.at; node = f.4.node; inc = f.4.inc ∙ o.1.inc; req = f.4.req; ack = suc f.1; view = f.2; acked = f.5 };
   }
     where
-      idle : (n : ℕ) (lt : 0 < inc_of v.members n) → (d.live.member n lt).0.core.queue ≡ []
+      idle : (n : ℕ) (lt : 0 < inc_of v.members n) → (d.live.stand.member n lt).0.core.queue ≡ []
       idle n lt =
-          let o = d.live.member n lt in
+          let o = d.live.stand.member n lt in
           let has : queue_at t n ≤ waiting t v.members = waiting_has t v.members n lt in
           let z : waiting t v.members ≡ 0 = d.empty in
           let at : queue_at t n ≡ length o.0.core.queue = shown_at (λ (u : NodeState M). length u.core.queue) 0 t n o.0 o.1.node in

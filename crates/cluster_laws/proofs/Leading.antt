@@ -1,4 +1,4 @@
--- Steps towards serving each request: what a tick and a delivery make of a world.
+-- Ways that a world can go on: what a tick and a delivery make of it, where a view stands.
 use Rattle.std.proofs.Common.{◌≡◌, ◌≢◌, ◌⊎◌, inl, inr, ⊎_elim, ℕ, zero, suc, ◌+◌, ◌<◌, ◌≤◌, Bool, true, false, not, ◌&&◌, List, [], ◌∷◌, ◌++◌, length, Option, Some, None, nat_eq, nat_lt, if◌then◌else◌, slice_get, refl, sym, ap, ◌∙◌, subst, arith}
 use Rattle.std.specs.List.{list_all}
 use Rattle.gum_messages.specs.declared.member.Member.{Member}
@@ -27,8 +27,9 @@ use Rattle.cluster_rules.specs.Progress.{Leads, Runs, goes_on, queue_at, waiting
 use Rattle.cluster_laws.proofs.Inv.{Has, Invariant, NodeOk, Stands}
 use Rattle.cluster_laws.proofs.Moves.{moved, put_cases, slice_get_append, slice_get_back, slice_get_front}
 use Rattle.cluster_laws.proofs.Opening.{sent_append}
-use Rattle.cluster_laws.proofs.Lockers.{Lockers}
-use Rattle.cluster_laws.proofs.Theorem.{happens_keeps, lockers_keep}
+use Rattle.cluster_laws.proofs.Applying.{eq_true}
+use Rattle.cluster_laws.proofs.Orders.{run_append}
+use Rattle.cluster_laws.proofs.Sound.{Sound, sound_keeps}
 
 all_append : (f : Event → Bool) (a b : List Event) → list_all f a ≡ true → list_all f b ≡ true → list_all f (a ++ b) ≡ true
 all_append f [] b h g = g
@@ -38,16 +39,7 @@ all_append f (x ∷ a) b h g = split (f x) (list_all f a) (list_all f (a ++ b)) 
     split true q r e k = k e
     split false q r e k = cc
 
--- What each core keeps besides: a request that it counts as logged stands in the order, and whom it awaits is there
-pub record CoreOk (l : Log) (c : CoreState) : Type 0 where
-  pub greatest : (m : ℕ) → 0 < inc_of c.members m → 0 < greatest_of c m → (r : Entry) × Stands l r × Has r m (inc_of c.members m) (greatest_of c m)
-  pub awaits : (s : Spreading) → c.spreading ≡ Some s → (to : ℕ) × (receiver c s.at ≡ Some to)
-
 module _ {M : Machine} where
-  run_append : (a b : List Event) (w : World M) → run (a ++ b) w ≡ run b (run a w)
-  run_append [] b w = refl
-  run_append (e ∷ a) b w = run_append a b (happens w e)
-
   pub leads_now : (f : Event → Bool) (w : World M) (Q : World M → Type 0) → Q w → Leads f w Q
   leads_now f w Q q = record { events = []; going = refl; ends = q }
 
@@ -105,42 +97,28 @@ module _ {M : Machine} where
 
   pub shown_same : {A : Type 0} (f : NodeState M → A) (d : A) (g : ℕ → Option (NodeState M)) (n : ℕ) (x y : NodeState M) → g n ≡ Some x → f y ≡ f x → (m : ℕ) → shown f d (put g n (Some y) m) ≡ shown f d (g m)
   shown_same f d g n x y at e m = if_cases (λ (o : Option (NodeState M)). shown f d o ≡ shown f d (g m)) (nat_eq m n) _ _
-      (λ q. let same : m ≡ n = eq m n q in e ∙ sym (ap (λ (o : Option (NodeState M)). shown f d o) (ap g same ∙ at)))
+      (λ q. let same : m ≡ n = eq_true m n q in e ∙ sym (ap (λ (o : Option (NodeState M)). shown f d o) (ap g same ∙ at)))
       (λ q. refl)
-    where
-      eq : (a b : ℕ) → nat_eq a b ≡ true → a ≡ b
-      eq a b e = grind arith
 
   pub queue_less : (g : ℕ → Option (NodeState M)) (n : ℕ) (x y : NodeState M) → g n ≡ Some x → length y.core.queue ≤ length x.core.queue → (m : ℕ) → shown (λ (z : NodeState M). length z.core.queue) 0 (put g n (Some y) m) ≤ shown (λ (z : NodeState M). length z.core.queue) 0 (g m)
   queue_less g n x y at e m = if_cases (λ (o : Option (NodeState M)). shown (λ (z : NodeState M). length z.core.queue) 0 o ≤ shown (λ (z : NodeState M). length z.core.queue) 0 (g m)) (nat_eq m n) _ _
       (λ q.
-      let same : m ≡ n = eq m n q in
+      let same : m ≡ n = eq_true m n q in
       let s : shown (λ (z : NodeState M). length z.core.queue) 0 (g m) ≡ length x.core.queue = ap (λ (o : Option (NodeState M)). shown (λ (z : NodeState M). length z.core.queue) 0 o) (ap g same ∙ at) in
       omega (arith, e, s))
       (λ q. omega arith)
-    where
-      eq : (a b : ℕ) → nat_eq a b ≡ true → a ≡ b
-      eq a b e = grind arith
 
-  -- An open view, in which nobody is missing
-  pub record Live (w : World M) (v : View) : Type 0 where
-    pub inv : Invariant w
-    pub lockers : Lockers w
-    pub cores : (n : ℕ) (x : NodeState M) → w.nodes n ≡ Some x → CoreOk w.log x.core
+  -- A view that stands in a world of a run
+  pub record Stand (w : World M) (v : View) : Type 0 where
+    pub sound : Sound w
     pub shape : IsView v
     pub held : w.log.held ≡ v.number
     pub member : (n : ℕ) → 0 < inc_of v.members n → (x : NodeState M) × Runs w v n x
-    pub open_ : (n : ℕ) (x : NodeState M) → 0 < inc_of v.members n → w.nodes n ≡ Some x → joining.is_open x.join ≡ true
 
-  -- one event that moves one node, and may lengthen the log
-  pub live_turned : IsMachine M → (w : World M) (v : View) (e : Event) (l : Log) (n : ℕ) (x y : NodeState M) (es : List Effect) → Live w v → happens w e ≡ turned w l n y es → w.nodes n ≡ Some x → y.join ≡ x.join → l.held ≡ w.log.held → ((c : CoreState) → CoreOk w.log c → CoreOk l c) → CoreOk l y.core → Live (turned w l n y es) v
-  live_turned law w v e l n x y es h q at same held more core = record {
-    inv = subst (λ (u : World M). Invariant u) q (happens_keeps law w e h.inv h.lockers);
-    lockers = subst (λ (u : World M). Lockers u) q (lockers_keep w e h.lockers);
-    cores = λ m z s. ⊎_elim
-        (λ (c : (m ≡ n) × (Some y ≡ Some z)). let g : y ≡ z = cc in subst (λ (t : NodeState M). CoreOk l t.core) g core)
-        (λ (c : (m ≢ n) × (w.nodes m ≡ Some z)). more z.core (h.cores m z c.1))
-        (put_cases w.nodes n (Some y) m z s);
+  -- one event that moves one node in its view, and may lengthen the log
+  stand_turned : IsMachine M → (w : World M) (v : View) (e : Event) (l : Log) (n : ℕ) (x y : NodeState M) (es : List Effect) → Stand w v → happens w e ≡ turned w l n y es → w.nodes n ≡ Some x → y.join.view ≡ x.join.view → y.join.inc ≡ x.join.inc → l.held ≡ w.log.held → Stand (turned w l n y es) v
+  stand_turned law w v e l n x y es h q at jv ji held = record {
+    sound = subst (λ (u : World M). Sound u) q (sound_keeps law w e h.sound);
     shape = h.shape;
     held = held ∙ h.held;
     member = λ m lt.
@@ -148,23 +126,32 @@ module _ {M : Machine} where
         let P : Option (NodeState M) → Type 0 = λ o. (z : NodeState M) × (o ≡ Some z) × (z.join.inc ≡ inc_of v.members m) × (z.join.view ≡ v) in
         let r : P (put w.nodes n (Some y) m) = if_cases P (nat_eq m n) _ _
             (λ q.
-            let mn : m ≡ n = eq m n q in
-            let xs : Some o.0 ≡ Some x = sym o.1.node ∙ ap w.nodes mn ∙ at in
+            let xs : Some o.0 ≡ Some x = sym o.1.node ∙ ap w.nodes (eq_true m n q) ∙ at in
             let xo : o.0 ≡ x = cc in
-            let js : y.join ≡ o.0.join = same ∙ ap (λ (t : NodeState M). t.join) (sym xo) in
-            (y, refl, ap (λ (t : ReconcileState). t.inc) js ∙ o.1.inc, ap (λ (t : ReconcileState). t.view) js ∙ o.1.view))
+            (y, refl, ji ∙ ap (λ (t : NodeState M). t.join.inc) (sym xo) ∙ o.1.inc, jv ∙ ap (λ (t : NodeState M). t.join.view) (sym xo) ∙ o.1.view))
             (λ q. (o.0, o.1.node, o.1.inc, o.1.view)) in
         (r.0, record { node = r.1; inc = r.2; view = r.3 });
+  }
+
+  leads_turned : (w : World M) (e : Event) (u : World M) (Q : World M → Type 0) → goes_on e ≡ true → happens w e ≡ u → Leads goes_on u Q → Leads goes_on w Q
+  leads_turned w e u Q g q k = leads_then goes_on w (λ (t : World M). t ≡ u) Q (leads_one w e u (λ (t : World M). t ≡ u) g q refl) (λ t r. subst (λ (t : World M). Leads goes_on t Q) (sym r) k)
+
+  pub move : IsMachine M → (w : World M) (v : View) (e : Event) (n : ℕ) (x y : NodeState M) (es : List Effect) (Q : World M → Type 0) → goes_on e ≡ true → Stand w v → happens w e ≡ turned w w.log n y es → w.nodes n ≡ Some x → y.join.view ≡ x.join.view → y.join.inc ≡ x.join.inc → (Stand (turned w w.log n y es) v → Leads goes_on (turned w w.log n y es) Q) → Leads goes_on w Q
+  move law w v e n x y es Q g h q at jv ji k = leads_turned w e (turned w w.log n y es) Q g q (k (stand_turned law w v e w.log n x y es h q at jv ji refl))
+
+  -- One that is open at each member
+  pub record Live (w : World M) (v : View) : Type 0 where
+    pub stand : Stand w v
+    pub open_ : (n : ℕ) (x : NodeState M) → 0 < inc_of v.members n → w.nodes n ≡ Some x → joining.is_open x.join ≡ true
+
+  live_turned : IsMachine M → (w : World M) (v : View) (e : Event) (l : Log) (n : ℕ) (x y : NodeState M) (es : List Effect) → Live w v → happens w e ≡ turned w l n y es → w.nodes n ≡ Some x → y.join ≡ x.join → l.held ≡ w.log.held → Live (turned w l n y es) v
+  live_turned law w v e l n x y es h q at same held = record {
+    stand = stand_turned law w v e l n x y es h.stand q at (ap (λ (t : ReconcileState). t.view) same) (ap (λ (t : ReconcileState). t.inc) same) held;
     open_ = λ m z lt s. ⊎_elim
         (λ (c : (m ≡ n) × (Some y ≡ Some z)). let g : y ≡ z = cc in subst (λ (t : NodeState M). joining.is_open t.join ≡ true) g (ap joining.is_open same ∙ h.open_ n x (subst (λ (a : ℕ). 0 < inc_of v.members a) c.0 lt) at))
         (λ (c : (m ≢ n) × (w.nodes m ≡ Some z)). h.open_ m z lt c.1)
         (put_cases w.nodes n (Some y) m z s);
   }
-    where
-      eq : (a b : ℕ) → nat_eq a b ≡ true → a ≡ b
-      eq a b e = grind arith
 
-  pub go : IsMachine M → (w : World M) (v : View) (e : Event) (l : Log) (n : ℕ) (x y : NodeState M) (es : List Effect) (Q : World M → Type 0) → goes_on e ≡ true → Live w v → happens w e ≡ turned w l n y es → w.nodes n ≡ Some x → y.join ≡ x.join → l.held ≡ w.log.held → ((c : CoreState) → CoreOk w.log c → CoreOk l c) → CoreOk l y.core → (Live (turned w l n y es) v → Leads goes_on (turned w l n y es) Q) → Leads goes_on w Q
-  go law w v e l n x y es Q g h q at same held more core k =
-      let u : World M = turned w l n y es in
-      leads_then goes_on w (λ (t : World M). t ≡ u) Q (leads_one w e u (λ (t : World M). t ≡ u) g q refl) (λ t r. subst (λ (t : World M). Leads goes_on t Q) (sym r) (k (live_turned law w v e l n x y es h q at same held more core)))
+  pub go : IsMachine M → (w : World M) (v : View) (e : Event) (l : Log) (n : ℕ) (x y : NodeState M) (es : List Effect) (Q : World M → Type 0) → goes_on e ≡ true → Live w v → happens w e ≡ turned w l n y es → w.nodes n ≡ Some x → y.join ≡ x.join → l.held ≡ w.log.held → (Live (turned w l n y es) v → Leads goes_on (turned w l n y es) Q) → Leads goes_on w Q
+  go law w v e l n x y es Q g h q at same held k = leads_turned w e (turned w l n y es) Q g q (k (live_turned law w v e l n x y es h q at same held))
