@@ -1,5 +1,5 @@
 -- The rule for a view that is installed.
-use Rattle.std.proofs.Common.{◌≡◌, ◌≢◌, ⊎_elim, ℕ, ◌+◌, ◌<◌, ◌≤◌, Bool, true, false, not, ◌&&◌, List, [], ◌∷◌, ◌++◌, length, take, Option, Some, None, nat_eq, nat_lt, cond, if◌then◌else◌, refl, sym, ap, ◌∙◌, subst, arith}
+use Rattle.std.proofs.Common.{◌≡◌, ◌≢◌, ⊎_elim, ℕ, ◌+◌, ◌<◌, ◌≤◌, Bool, true, false, not, ◌&&◌, List, [], ◌∷◌, ◌++◌, length, take, Option, Some, None, nat_eq, unwrap_or, nat_lt, cond, if◌then◌else◌, refl, sym, ap, ◌∙◌, subst, arith}
 use Rattle.std.proofs.lemmas.Bool.{cases_lt}
 use Rattle.gum_messages.specs.declared.member.Member.{Member}
 use Rattle.gum_messages.specs.declared.view.View.{View}
@@ -165,7 +165,8 @@ module _ {M : Machine} where
       (λ z r na nl.
       let far : has_state x ≡ true → done_of x + 1 < o.count = λ hs. far_from w n x o.count o.last done j at k.unready ct (sym (k.last ∙ ap (at_place w.log.order) (sym k.count))) (sure_ hs) na nl in
       let s : Replica M = record { registry = registry; done = o.count } in
-      let ps : (record x.join { stage = stage.Taking }, step.Pull 0) ≡ joining.pulls x.join = λ i. (record x.join { stage = if sym k.locker i then stage.Taking else stage.Pulling 0 }, step.Pull 0) in
+      let got : ℕ = unwrap_or (joining.pulled_bytes x.join) 0 in
+      let ps : (record x.join { stage = stage.Taking }, step.Pull got) ≡ joining.pulls_on x.join = λ i. (record x.join { stage = if sym k.locker i then stage.Taking else stage.Pulling got }, step.Pull got) in
       subst P ps (goes_keeps w n x (with_replica x registry o.count) o s x.outcome stage.Taking j at k refl refl (far_known w n x o.count j at k.view ct far) refl))
 
   pub recovers_keeps : IsMachine M → (w : World M) (n : ℕ) (x : NodeState M) → Invariant w → w.nodes n ≡ Some x → Recovers w n x (record { count = length w.log.order; cap = w.log.cap; last = last_of w.log.order }) → Invariant (absorb n (recovers x w.log.cap w.log.order) w)

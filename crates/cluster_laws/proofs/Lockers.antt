@@ -1,6 +1,6 @@
 -- A locker that stands in a view is ready: it became so in the event in which it took the view. A node's stamp is the
 -- clock's alone to change.
-use Rattle.std.proofs.Common.{◌≡◌, ◌≢◌, ⊎_elim, ℕ, ◌+◌, ◌<◌, Bool, true, false, not, ◌&&◌, List, [], ◌++◌, length, Option, Some, None, nat_eq, nat_lt, if◌then◌else◌, refl, sym, ap, ◌∙◌, subst, arith}
+use Rattle.std.proofs.Common.{◌≡◌, ◌≢◌, ⊎_elim, ℕ, ◌+◌, ◌<◌, Bool, true, false, not, ◌&&◌, List, [], ◌++◌, length, Option, Some, None, nat_eq, nat_lt, unwrap_or, if◌then◌else◌, refl, sym, ap, ◌∙◌, subst, arith}
 use Rattle.gum_messages.specs.declared.view.View.{View}
 use Rattle.gum_messages.specs.Members.{is_locker, is_member}
 use Rattle.gum_messages.proofs.Branches.{if_cases, option_cases}
@@ -127,7 +127,12 @@ module _ {M : Machine} where
       (λ z r k a b c. option_cases P o.last (nothing x) (λ e. says_ready (joined (applied e x) o.count o.last (joining.taken (record x.join { stage = stage.Taking }) true).0))
       (λ none. stays_same x x refl refl)
       (λ e some. stays_as x (joined (applied e x) o.count o.last (joining.taken (record x.join { stage = stage.Taking }) true).0) (taken_follows x.join stage.Taking) refl))
-      (λ z r. stays_as x (record x { join = (joining.pulls x.join).0; offer = Some o; bytes = [] }) (other (joining.pulls x.join).0 refl refl) refl)))
+      (λ z r.
+      let got : ℕ = unwrap_or (joining.pulled_bytes x.join) 0 in
+      let t : ReconcileState = (joining.pulls_on x.join).0 in
+      if_cases (λ (y : NodeState M). P (tells y (locker_at x) (Need got))) (nat_eq got 0) _ _
+      (λ b. stays_as x (record x { join = t; offer = Some o; bytes = [] }) (other t refl refl) refl)
+      (λ b. stays_as x (record x { join = t }) (other t refl refl) refl))))
       (λ g. stays_same x x refl refl)
 
   pub need_stays : (x : NodeState M) (from offset : ℕ) → Stays x (on_need x from offset)
@@ -228,7 +233,7 @@ module _ {M : Machine} where
       let taking : ReconcileState = record x.join { stage = stage.Taking } in
       let R : Option Entry → Type 0 = λ l. let t : Out M = elim l [ None ↦ nothing x | Some d ↦ goes_on (joined (applied d x) o.count o.last (joining.taken taking true).0) o (joining.taken taking true).1 ] in IsReady x t.node in
       subst R (sym e.1) (goes_ready x (applied e.0 x) o stage.Taking refl))
-      (λ z r. goes_ready x (with_replica x registry o.count) o (if joining.locks x.join then stage.Taking else stage.Pulling 0) refl)
+      (λ z r. goes_ready x (with_replica x registry o.count) o (if joining.locks x.join then stage.Taking else stage.Pulling (unwrap_or (joining.pulled_bytes x.join) 0)) refl)
 
   -- every locker that stands in a view is ready
   abbrev pub Lockers : World M → Type 0

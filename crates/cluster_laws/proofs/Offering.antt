@@ -1,5 +1,5 @@
 -- Offers are followed, and the state is pulled.
-use Rattle.std.proofs.Common.{◌≡◌, ◌≢◌, inl, ℕ, zero, suc, ◌+◌, ◌<◌, ◌≤◌, true, false, not, ◌&&◌, List, [], ◌∷◌, ◌++◌, length, take, drop, Option, Some, None, nat_eq, cond, if◌then◌else◌, refl, sym, ap, ◌∙◌, subst, arith}
+use Rattle.std.proofs.Common.{◌≡◌, ◌≢◌, inl, ℕ, zero, suc, ◌+◌, ◌<◌, ◌≤◌, true, false, not, ◌&&◌, List, [], ◌∷◌, ◌++◌, length, take, drop, Option, Some, None, nat_eq, unwrap_or, cond, if◌then◌else◌, refl, sym, ap, ◌∙◌, subst, arith}
 use Rattle.std.specs.List.{AllByRecursion}
 use Rattle.gum_messages.specs.declared.member.Member.{Member}
 use Rattle.gum_messages.specs.declared.view.View.{View}
@@ -55,7 +55,7 @@ pub offered_split : (P : ReconcileState × Step → Type 0) (s : ReconcileState)
     → (s.view.number ≢ 0 → joining.is_ready s ≡ true → P (s, cond (joining.locks s) step.Nothing step.Ready))
     → (s.view.number ≢ 0 → joining.is_ready s ≡ false → done ≡ Some count → P (joining.becomes_ready s))
     → (s.view.number ≢ 0 → joining.is_ready s ≡ false → (k : ℕ) → done ≡ Some k → k + 1 ≡ count → last ≡ Some count → P (record s { stage = stage.Taking }, step.ApplyLast))
-    → (s.view.number ≢ 0 → joining.is_ready s ≡ false → joining.has_all done count ≡ false → joining.lacks_last done count last ≡ false → P (joining.pulls s))
+    → (s.view.number ≢ 0 → joining.is_ready s ≡ false → joining.has_all done count ≡ false → joining.lacks_last done count last ≡ false → P (joining.pulls_on s))
     → P (joining.offered s count last done)
 offered_split P s count last done none again all_ next far =
     if_cases P (nat_eq s.view.number 0) _ _ (λ e. none (eq_true s.view.number 0 e)) (λ e.
@@ -83,6 +83,17 @@ place_is (Some r) k e = (r, refl, cc)
 
 pub pulling_unready : (s : ReconcileState) (got : ℕ) → s.stage ≡ stage.Pulling got → joining.is_ready s ≡ false
 pulling_unready s got e = ap (λ (t : Stage). elim t [ stage.Ready ↦ true | stage.Open ↦ true | _ ↦ false ]) e
+
+-- a node that has bytes of the state pulls it
+pub has_bytes : (s : ReconcileState) → nat_eq (unwrap_or (joining.pulled_bytes s) 0) 0 ≡ false → s.stage ≡ stage.Pulling (unwrap_or (joining.pulled_bytes s) 0)
+has_bytes s = go s.stage
+  where
+    go : (t : Stage) → nat_eq (unwrap_or (elim t [ stage.Pulling got ↦ Some got | _ ↦ None ]) 0) 0 ≡ false → t ≡ stage.Pulling (unwrap_or (elim t [ stage.Pulling got ↦ Some got | _ ↦ None ]) 0)
+    go stage.Waiting e = absurd (cc)
+    go (stage.Pulling got) e = refl
+    go stage.Taking e = absurd (cc)
+    go stage.Ready e = absurd (cc)
+    go stage.Open e = absurd (cc)
 
 module _ {M : Machine} where
   pub was_ready_self : (w : World M) (n : ℕ) (y : NodeState M) (es : List Effect) → y.join.inc ≤ w.starts n → NodeOk (moved w n y es) n y → joining.is_ready y.join ≡ true → WasReady (moved w n y es) n y.join.inc y.join.view.number
@@ -251,10 +262,19 @@ module _ {M : Machine} where
       subst Q (sym e.1) (subst (λ (r : ReconcileState × Step). Invariant (absorb n (says_ready (joined (applied e.0 x) o.count o.last r.0)) w)) (sym tr) keeps))
       (λ z r na nlk.
       let far : has_state x ≡ true → done_of x + 1 < o.count = λ hs. far_from w n x o.count o.last (known_done x) j at nr ct la (done_known x hs) na nlk in
-      let ps : (record x.join { stage = stage.Pulling 0 }, step.Pull 0) ≡ joining.pulls x.join = λ i. (record x.join { stage = if sym nl i then stage.Taking else stage.Pulling 0 }, step.Pull 0) in
-      subst P ps (still_keeps w n x (stage.Pulling 0) (Some o) [] 0 j at nz nr refl
+      let got : ℕ = unwrap_or (joining.pulled_bytes x.join) 0 in
+      let ps : (record x.join { stage = stage.Pulling got }, step.Pull got) ≡ joining.pulls_on x.join = λ i. (record x.join { stage = if sym nl i then stage.Taking else stage.Pulling got }, step.Pull got) in
+      let P' : NodeState M → Type 0 = λ y. Invariant (absorb n (tells y (locker_at x) (Need got)) w) in
+      subst P ps (if_cases P' (nat_eq got 0) _ _
+      (λ b. subst (λ (k : ℕ). Invariant (absorb n (tells (pulling x (stage.Pulling k) (Some o) []) (locker_at x) (Need k)) w)) (sym (eq_true got 0 b)) (still_keeps w n x (stage.Pulling 0) (Some o) [] 0 j at nz nr refl
       (λ a e. let q : o ≡ a = cc in subst (λ (a : Offering). (w.log.count x.join.view.number ≡ Some a.count) × (a.cap ≡ w.log.cap) × (a.last ≡ at_place w.log.order a.count) × (joining.locks x.join ≡ false) × (has_state x ≡ true → done_of x + 1 < a.count)) q (ct, cp, sym la, nl, far))
-      (λ got e. let q : 0 ≡ got = cc in (o, refl, subst (λ (g : ℕ). [] ≡ take g (state_bytes w o.count)) q refl))))
+      (λ k e. let q : 0 ≡ k = cc in (o, refl, subst (λ (g : ℕ). [] ≡ take g (state_bytes w o.count)) q refl))))
+      (λ b.
+      let pulls_ : x.join.stage ≡ stage.Pulling got = has_bytes x.join b in
+      let q = h.pulled got pulls_ in
+      still_keeps w n x (stage.Pulling got) x.offer x.bytes got j at nz nr refl
+      (λ a e. let p = h.pull a e in (p.1, p.2, p.3, p.4, h.pulling a e))
+      (λ k e. h.pulled k (pulls_ ∙ e)))))
 
   pub on_offer_keeps : (w : World M) (n : ℕ) (x : NodeState M) (from c cap : ℕ) (last : Option Entry) → Invariant w → w.nodes n ≡ Some x → x.join.view.number ≢ 0 → MsgOk w x.join.view from n (Offer c cap last) → Invariant (absorb n (on_offer x from (record { count = c; cap = cap; last = last })) w)
   on_offer_keeps w n x from c cap last j at nz ok =

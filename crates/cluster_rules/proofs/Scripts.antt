@@ -1,5 +1,5 @@
 -- The rules, seen to run: what comes of some lists of events, by computation alone.
-use Rattle.std.proofs.Common.{◌≡◌, ℕ, ◌+◌, Bool, true, false, List, [], ◌∷◌, length, Option, Some, None, refl, sym}
+use Rattle.std.proofs.Common.{◌≡◌, ℕ, ◌+◌, Bool, true, false, List, [], ◌∷◌, length, replicate, Option, Some, None, refl, sym}
 use Rattle.std.specs.Prelude.{⊤}
 use Rattle.gum_messages.specs.declared.member.Member.{Member}
 use Rattle.gum_messages.specs.declared.view.View.{View}
@@ -210,3 +210,20 @@ module _ (u : Update) (valid : IsUpdate u) where
 
   pub fenced_logs : length (run fenced (run first begin)).log.order ≡ 0
   fenced_logs = refl
+
+-- A state of two pieces: an Offer that comes again between them takes nothing back, and the pull ends.
+abbrev pub bulky : Machine
+bulky = record tally { encode = λ r. r.1 ∷ replicate 4096 0 }
+
+abbrev pieces : List Event
+pieces =
+    Start 1 ∷ Start 2 ∷ Declare (view 1 ((1, 1) ∷ (2, 1) ∷ [])) ∷ Install 2 1 (Recovered false) ∷ Install 1 1 (Recovered false)
+    -- Offer, Need, Piece; the Offer again; Need, Piece, Ready, OpenView
+    ∷ Deliver 1 Written ∷ Deliver 2 Written ∷ Deliver 3 Written ∷ Deliver 1 Written ∷ Deliver 5 Written ∷ Deliver 6 Written ∷ Deliver 7 Written ∷ Deliver 8 Written ∷ []
+
+abbrev opened : {M : Machine} → Option (NodeState M) → Bool
+opened None = false
+opened (Some x) = joining.is_open x.join
+
+pub pieces_open : opened ((run pieces (opening bulky 4096)).nodes 1) ∷ opened ((run pieces (opening bulky 4096)).nodes 2) ∷ [] ≡ true ∷ true ∷ []
+pieces_open = refl

@@ -50,11 +50,15 @@ known_done x = elim x.replica [ None ↦ None | Some r ↦ Some r.done ]
 abbrev pub says_ready : {M : Machine} → NodeState M → Out M
 says_ready x = tells x (locker_at x) Ready
 
+-- It begins to pull what was offered; where it has bytes of it already it forgets nothing.
+abbrev pub pulls : {M : Machine} → NodeState M → Offering → ℕ → ReconcileState → NodeState M
+pulls x o got join = if nat_eq got 0 then record x { join = join; offer = Some o; bytes = [] } else record x { join = join }
+
 abbrev pub follows : {M : Machine} → NodeState M → Offering → ReconcileState × Step → Out M
 follows x o r = elim (r.1) [
   | step.Ready ↦ says_ready (joined x o.count o.last r.0)
   | step.ApplyLast ↦ elim o.last [ None ↦ nothing x | Some e ↦ says_ready (joined (applied e x) o.count o.last (joining.taken r.0 true).0) ]
-  | step.Pull offset ↦ tells (record x { join = r.0; offer = Some o; bytes = [] }) (locker_at x) (Need offset)
+  | step.Pull offset ↦ tells (pulls x o offset r.0) (locker_at x) (Need offset)
   | _ ↦ nothing x
 ]
 

@@ -1,13 +1,13 @@
 -- The cases of each rule of joining: what holds of each outcome under its guards holds of what the rule gives.
-use Rattle.std.proofs.Common.{◌≡◌, ◌≢◌, ◌⊎◌, inl, inr, ℕ, ◌+◌, ◌-◌, ◌<◌, ◌≤◌, Bool, true, false, not, ◌&&◌, ◌||◌, List, [], ◌∷◌, length, Option, Some, None, replicate, slice_set, nat_eq, nat_lt, nat_le, cond, refl, ap, sym, ◌∙◌, subst, arith}
+use Rattle.std.proofs.Common.{◌≡◌, ◌≢◌, ◌⊎◌, inl, inr, ℕ, ◌+◌, ◌<◌, ◌≤◌, Bool, true, false, not, ◌&&◌, length, Option, Some, None, replicate, nat_eq, nat_lt, cond, refl, ap, sym, ◌∙◌, subst, arith}
 use Rattle.gum_messages.specs.declared.view.View.{View}
-use Rattle.gum_messages.specs.Members.{inc_of, index_of, is_locker, is_member}
+use Rattle.gum_messages.specs.Members.{inc_of, is_member}
 use Rattle.gum_messages.proofs.Branches.{if_cases, option_cases}
 use Rattle.view_reconcile.specs.declared.stage.Stage.{Stage}
 use Rattle.view_reconcile.specs.declared.stage.Stage.TheVariants as stage
 use Rattle.view_reconcile.specs.declared.step.Step.{Step}
 use Rattle.view_reconcile.specs.declared.step.Step.TheVariants as step
-use Rattle.view_reconcile.specs.Joining.{ReconcileState, all_ready, becomes_ready, has_all, installed, is_alone, is_open, is_ready, lacks_last, locks, marked, offered, opened, pulled, pulled_bytes, pulls, readied, taken}
+use Rattle.view_reconcile.specs.Joining.{ReconcileState, all_ready, becomes_ready, has_all, installed, is_alone, is_open, is_ready, lacks_last, locks, marked, offered, opened, pulled, pulled_bytes, pulls, pulls_on, readied, taken}
 
 -- What guards say.
 eq_true : (a b : ℕ) → nat_eq a b ≡ true → a ≡ b
@@ -89,7 +89,7 @@ pub offered_cases : (P : ReconcileState × Step → Type 0) (s : ReconcileState)
     → (s.view.number ≢ 0 → is_ready s ≡ true → P (s, cond (locks s) step.Nothing step.Ready))
     → (s.view.number ≢ 0 → is_ready s ≡ false → done ≡ Some count → P (becomes_ready s))
     → (s.view.number ≢ 0 → is_ready s ≡ false → (k : ℕ) → done ≡ Some k → k + 1 ≡ count → last ≡ Some count → P (record s { stage = stage.Taking }, step.ApplyLast))
-    → (s.view.number ≢ 0 → is_ready s ≡ false → P (pulls s))
+    → (s.view.number ≢ 0 → is_ready s ≡ false → P (pulls_on s))
     → P (offered s count last done)
 offered_cases P s count last done no_view again all_ next far =
     if_cases P (nat_eq s.view.number 0) _ _ (λ e. no_view (eq_true s.view.number 0 e)) (λ e.

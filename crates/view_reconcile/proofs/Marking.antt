@@ -1,5 +1,5 @@
 -- Which members count as ready after an event.
-use Rattle.std.proofs.Common.{◌≡◌, ◌≢◌, ◌⊎◌, inl, inr, ℕ, ◌<◌, Bool, true, false, List, replicate, length, nat_eq, sym, ◌∙◌, refl, arith}
+use Rattle.std.proofs.Common.{◌≡◌, ◌≢◌, ◌⊎◌, inl, inr, ℕ, ◌<◌, Bool, true, false, replicate, nat_eq, sym, ◌∙◌, refl, arith}
 use Rattle.gum_messages.specs.declared.view.View.{View}
 use Rattle.gum_messages.specs.Members.{inc_of}
 use Rattle.gum_messages.proofs.Beside.{entry_first, entry_kept}

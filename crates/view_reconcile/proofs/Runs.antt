@@ -1,5 +1,5 @@
 -- The rules of joining, seen to run: two views, each event by its rule.
-use Rattle.std.proofs.Common.{◌≡◌, ℕ, Bool, true, false, List, [], ◌∷◌, Option, Some, None, refl}
+use Rattle.std.proofs.Common.{◌≡◌, ℕ, Bool, true, false, List, [], ◌∷◌, Some, None, refl}
 use Rattle.gum_messages.specs.declared.member.Member.{Member}
 use Rattle.gum_messages.specs.declared.view.View.{View}
 use Rattle.view_reconcile.specs.declared.step.Step.{Step}
@@ -47,6 +47,10 @@ member_pulls = offered (installed (fresh 2 1) both).0 3 (Some 3) None
 
 abbrev member_goes_on : ReconcileState × Step
 member_goes_on = pulled member_pulls.0 5000 0 4096
+
+-- Offered again, it asks for the next piece and keeps what it has.
+pub offered_again : offered member_goes_on.0 3 (Some 3) None ≡ (member_goes_on.0, step.Pull 4096)
+offered_again = refl
 
 abbrev member_whole : ReconcileState × Step
 member_whole = pulled member_goes_on.0 5000 4096 904

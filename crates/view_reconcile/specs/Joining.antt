@@ -69,9 +69,18 @@ becomes_ready s =
     then (record s { stage = stage.Open }, step.Open)
     else (record s { stage = stage.Ready }, step.Ready)
 
--- A member pulls the state from its beginning; the locker takes the one that it recovered from the log.
+-- A member that has this many bytes of the state pulls the next ones; the locker takes the state that it recovered
+-- from the log.
+abbrev pub pulls_from : ReconcileState → ℕ → ReconcileState × Step
+pulls_from s got = (record s { stage = if locks s then stage.Taking else stage.Pulling got }, step.Pull got)
+
+-- It pulls from the beginning.
 abbrev pub pulls : ReconcileState → ReconcileState × Step
-pulls s = (record s { stage = if locks s then stage.Taking else stage.Pulling 0 }, step.Pull 0)
+pulls s = pulls_from s 0
+
+-- Where it pulls already it keeps the bytes that it has.
+abbrev pub pulls_on : ReconcileState → ReconcileState × Step
+pulls_on s = pulls_from s (unwrap_or (pulled_bytes s) 0)
 
 -- The node has applied as many records as the Offer counts.
 abbrev pub has_all : Option ℕ → ℕ → Bool
@@ -91,7 +100,7 @@ offered s count last done =
     else (if is_ready s then (s, if locks s then step.Nothing else step.Ready)
     else (if has_all done count then becomes_ready s
     else (if lacks_last done count last then (record s { stage = stage.Taking }, step.ApplyLast)
-    else pulls s)))
+    else pulls_on s)))
 
 -- The record was applied or the state was taken, or neither could be done.
 abbrev pub taken : ReconcileState → Bool → ReconcileState × Step

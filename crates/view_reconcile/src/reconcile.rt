@@ -1,9 +1,9 @@
 //! How far a node is in its view.
 
-ghost use Rattle.std.specs.Prelude.{◌≡◌, ◌+◌, ◌≤◌, IfOk, IsOk, MatchOption, OnErr, length, nat_eq, slice_set, true};
+ghost use Rattle.std.specs.Prelude.{◌≡◌, ◌+◌, ◌≤◌, IfOk, IsOk, MatchOption, OnErr, length, nat_eq, slice_set, true, unwrap_or};
 ghost use Rattle.gum_messages.specs.Members.{inc_of, index_of, is_member};
 ghost use Rattle.gum_messages.specs.Views.{no_view};
-ghost use Rattle.view_reconcile.specs.Joining.{all_counted, all_ready, awaited, becomes_ready, counts_ready, fresh, has_all, installed, is_alone, is_marked, is_open, is_ready, lacks_last, locks, marked, offered, opened, piece_length, pulled, pulls, readied, taken, ticked, waits_for};
+ghost use Rattle.view_reconcile.specs.Joining.{all_counted, all_ready, awaited, becomes_ready, counts_ready, fresh, has_all, installed, is_alone, is_marked, is_open, is_ready, lacks_last, locks, marked, offered, opened, piece_length, pulled, pulled_bytes, pulls_from, readied, taken, ticked, waits_for};
 
 use crate::{Member, Stage, Step, View};
 use std::alloc::{AllocError, Global};
@@ -67,7 +67,7 @@ impl Reconcile {
 
     /// The locker offers its log: the number of its records, and the place of the last one where it was sent too.
     /// `done` is how many records this node has applied, none where it has no state.
-    /// The locker itself hears its own offer. After [`Step::Ready`] and [`Step::Open`] the node is ready.
+    /// A member that pulls already keeps the bytes that it has. The locker itself hears its own offer. After [`Step::Ready`] and [`Step::Open`] the node is ready.
     pub fn offer(&mut self, count: u64, last: Option<u64>, done: Option<u64>) -> Step
         ensures { (self.new, result) ≡ offered self.old count last done }
     {
@@ -88,7 +88,8 @@ impl Reconcile {
             self.stage = Stage::Taking;
             return Step::ApplyLast;
         }
-        self.pull()
+        let got = self.pulled_bytes();
+        self.pull(got)
     }
 
     /// The record was applied or the state was taken; `good` is false where a state couldn't be decoded.
@@ -99,7 +100,7 @@ impl Reconcile {
         if good {
             self.become_ready()
         } else {
-            self.pull()
+            self.pull(0)
         }
     }
 
@@ -310,15 +311,25 @@ impl Reconcile {
         Step::Ready
     }
 
-    fn pull(&mut self) -> Step
-        ensures { (self.new, result) ≡ pulls self.old }
+    /// How many bytes of the locker's state it has; 0 where it doesn't pull.
+    fn pulled_bytes(&self) -> u32
+        ensures { result ≡ unwrap_or (pulled_bytes self.now) 0 }
+    {
+        match self.stage {
+            Stage::Pulling { taken } => taken,
+            _ => 0,
+        }
+    }
+
+    fn pull(&mut self, got: u32) -> Step
+        ensures { (self.new, result) ≡ pulls_from self.old got }
     {
         if self.locks() {
             self.stage = Stage::Taking;
         } else {
-            self.stage = Stage::Pulling { taken: 0 };
+            self.stage = Stage::Pulling { taken: got };
         }
-        Step::Pull { offset: 0 }
+        Step::Pull { offset: got }
     }
 
     fn pulled(&mut self, total: u32, offset: u32, count: usize) -> Step

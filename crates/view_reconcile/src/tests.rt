@@ -54,6 +54,7 @@ fn a_member_joins(rt: HostRuntime) -> Result<(), Fail> {
     assert_eq!(rt; node.offer(3, Some(3), Some(1)), Step::Pull { offset: 0 });
     assert_eq!(rt; node.piece(6, 0, b"four")?, Step::Pull { offset: 4 });
     assert_eq!(rt; node.tick(), Step::Pull { offset: 4 });
+    assert_eq!(rt; node.offer(3, Some(3), Some(1)), Step::Pull { offset: 4 });
     assert_eq!(rt; node.piece(6, 4, b"more")?, Step::Whole);
     Ok(())
 }
