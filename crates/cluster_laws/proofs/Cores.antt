@@ -1,4 +1,6 @@
 -- What each core keeps besides: the requests that it counts as logged stand in the order, and whom it awaits is there.
+use Rattle.std.proofs.lemmas.List.{length-append}
+use Rattle.std.proofs.Common.{unwrap_or}
 use Rattle.gum_core.proofs.Logging.{greatest_kept}
 use Rattle.gum_messages.proofs.Placing.{place_new}
 use Rattle.gum_core.proofs.Logging.{greatest_logged}
@@ -45,7 +47,7 @@ use Rattle.gum_core.proofs.Cases.{applied_cases, applying_cases, asked_cases, gr
 use Rattle.gum_core.proofs.Cases.{opened_cases as core_opened_cases}
 use Rattle.view_reconcile.proofs.Cases.{becomes_ready_cases, offered_cases, opened_cases, pulled_cases, readied_cases}
 use Rattle.cluster_laws.proofs.Recovering.{entered_is, taken_view}
-use Rattle.cluster_laws.proofs.Offering.{place_is}
+use Rattle.cluster_laws.proofs.Offering.{has_bytes, place_is}
 
 
 use Rattle.gum_core.specs.declared.spreading.Spreading.{Spreading}
@@ -108,44 +110,56 @@ grown_core l m c g h = record {
   awaits = h.awaits;
 }
 
+-- a stage in which so many bytes were pulled
+pulls_says : (locks : Bool) (got k : ℕ) → (if locks then stage.Taking else stage.Pulling got) ≡ stage.Pulling k → got ≡ k
+pulls_says true got k e = absurd (cc)
+pulls_says false got k e = cc
+
 module _ {M : Machine} where
+  -- it has as many bytes of the state that it pulls as it counts
+  abbrev pub Measured : NodeState M → Type 0
+  Measured x = (got : ℕ) → x.join.stage ≡ stage.Pulling got → length x.bytes ≡ got
+
+  abbrev pub Counted : Log → NodeState M → Type 0
+  Counted l x = CoreOk l x.core × Measured x
+
   abbrev pub StaysAt : Log → Option (NodeState M) → Type 0
-  StaysAt l o = (y : NodeState M) → o ≡ Some y → CoreOk l y.core
+  StaysAt l o = (y : NodeState M) → o ≡ Some y → Counted l y
 
   abbrev pub Stays : Log → Out M → Type 0
   Stays l o = StaysAt l o.node
 
-  stays_as : (l : Log) (y : NodeState M) → CoreOk l y.core → StaysAt l (Some y)
-  stays_as l y f z e = let q : y ≡ z = cc in subst (λ (t : NodeState M). CoreOk l t.core) q f
+  stays_as : (l : Log) (y : NodeState M) → Counted l y → StaysAt l (Some y)
+  stays_as l y f z e = let q : y ≡ z = cc in subst (λ (t : NodeState M). Counted l t) q f
 
   stays_halts : (l : Log) → StaysAt l None
   stays_halts l y e = absurd (cc)
 
   -- Global update
-  submit_stays : (l : Log) (x : NodeState M) (u : Update) → CoreOk l x.core → Stays l (submit x u)
-  submit_stays l x u c = if_cases (λ (o : Out M). Stays l o) (may_submit x) _ _ (λ g. stays_as l (record x { core = (updating.submitted x.core u).0 }) (record { greatest = c.greatest; awaits = c.awaits })) (λ g. stays_as l x c)
+  submit_stays : (l : Log) (x : NodeState M) (u : Update) → Counted l x → Stays l (submit x u)
+  submit_stays l x u c = if_cases (λ (o : Out M). Stays l o) (may_submit x) _ _ (λ g. stays_as l (record x { core = (updating.submitted x.core u).0 }) (record { greatest = c.0.greatest; awaits = c.0.awaits }, c.1)) (λ g. stays_as l x c)
 
-  begins_stays : (l : Log) (y : NodeState M) → CoreOk l y.core → StaysAt l (begins y (updating.opened y.core y.settled)).node
+  begins_stays : (l : Log) (y : NodeState M) → Counted l y → StaysAt l (begins y (updating.opened y.core y.settled)).node
   begins_stays l y c = core_opened_cases (λ (t : CoreState × Decision). StaysAt l (begins y t).node) y.core y.settled
-      (λ e. stays_as l (record y { core = record y.core { is_open = true } }) (open_core l y.core c))
-      (λ some none. stays_as l (record y { core = record y.core { is_open = true } }) (open_core l y.core c))
-      (λ some k set_. stays_as l (without_head y (updating.finished (record y.core { is_open = true }) k).0) (finish_core l (record y.core { is_open = true }) k (open_core l y.core c)))
+      (λ e. stays_as l (record y { core = record y.core { is_open = true } }) (open_core l y.core c.0, c.1))
+      (λ some none. stays_as l (record y { core = record y.core { is_open = true } }) (open_core l y.core c.0, c.1))
+      (λ some k set_. stays_as l (without_head y (updating.finished (record y.core { is_open = true }) k).0) (finish_core l (record y.core { is_open = true }) k (open_core l y.core c.0), c.1))
 
-  proceeds_stays : (l : Log) (x : NodeState M) (e : Entry) (place at : ℕ) → CoreOk l x.core → Stays l (proceeds x e (updating.spread x.core place at))
+  proceeds_stays : (l : Log) (x : NodeState M) (e : Entry) (place at : ℕ) → Counted l x → Stays l (proceeds x e (updating.spread x.core place at))
   proceeds_stays l x e place at c = spread_cases (λ (t : CoreState × Decision). Stays l (proceeds x e t)) x.core place at
-      (λ none. stays_as l (without_head x (updating.finished x.core place).0) (finish_core l x.core place c))
-      (λ to there. stays_as l (record x { core = record x.core { spreading = Some (record { place = place; at = at }) }; spreads = Some e }) (spread_core l x.core place at c to there))
+      (λ none. stays_as l (without_head x (updating.finished x.core place).0) (finish_core l x.core place c.0, c.1))
+      (λ to there. stays_as l (record x { core = record x.core { spreading = Some (record { place = place; at = at }) }; spreads = Some e }) (spread_core l x.core place at c.0 to there, c.1))
 
-  granted_stays : (l : Log) (x : NodeState M) (e : Entry) → CoreOk l x.core → Stays l (on_granted x e)
+  granted_stays : (l : Log) (x : NodeState M) (e : Entry) → Counted l x → Stays l (on_granted x e)
   granted_stays l x e k = granted_cases (λ (t : CoreState × Decision). Stays l (proceeds x e t)) x.core e.id.req e.place
       (stays_as l x k) (λ a b c d. proceeds_stays l x e e.place 0 k) (λ a b c. stays_as l x k)
 
-  applied_stays : (l : Log) (x : NodeState M) (from place : ℕ) → CoreOk l x.core → Stays l (on_applied x from place)
+  applied_stays : (l : Log) (x : NodeState M) (from place : ℕ) → Counted l x → Stays l (on_applied x from place)
   applied_stays l x from place k = option_cases (λ (o : Out M). Stays l o) x.spreads (nothing x) (λ e. proceeds x e (updating.applied x.core from place))
       (λ none. stays_as l x k)
       (λ e has. applied_cases (λ (t : CoreState × Decision). Stays l (proceeds x e t)) x.core from place (stays_as l x k) (λ s a b c. proceeds_stays l x e place (s.at + 1) k))
 
-  apply_stays : (l : Log) (x : NodeState M) (from : ℕ) (e : Entry) → CoreOk l x.core → Stays l (on_apply x from e)
+  apply_stays : (l : Log) (x : NodeState M) (from : ℕ) (e : Entry) → Counted l x → Stays l (on_apply x from e)
   apply_stays l x from e k = if_cases (λ (o : Out M). Stays l o) (joining.is_ready x.join && not (joining.locks x.join)) _ _
       (λ g. applying_cases (λ (d : Decision). Stays l (applies x from e d)) (done_of x) e.place (λ a. stays_as l (applied e x) k) (λ a. stays_as l x k) (λ a. stays_as l x k))
       (λ g. stays_as l x k)
@@ -154,7 +168,7 @@ module _ {M : Machine} where
   abbrev Left : Log → ℕ → Logged M → Type 0
   Left l v d = StaysAt (leave d.doubtful v (append d.appended v l)) d.out.node
 
-  ask_stays : (w : World M) (n : ℕ) (x : NodeState M) (from q : ℕ) (u : Update) (answer : Answer) → Invariant w → w.nodes n ≡ Some x → 0 < inc_of x.join.view.members from → CoreOk w.log x.core → Left w.log (number_of x) (on_ask x from q u w.log.held answer)
+  ask_stays : (w : World M) (n : ℕ) (x : NodeState M) (from q : ℕ) (u : Update) (answer : Answer) → Invariant w → w.nodes n ≡ Some x → 0 < inc_of x.join.view.members from → Counted w.log x → Left w.log (number_of x) (on_ask x from q u w.log.held answer)
   ask_stays w n x from q u answer j at pos k =
       let h : NodeOk w n x = j.nodes n x at in
       asked_cases (λ (d : Decision). Left w.log (number_of x) (answers x u w.log.held answer d)) x.core from q (done_of x)
@@ -169,7 +183,7 @@ module _ {M : Machine} where
       let lks : joining.locks x.join ≡ true = ap (λ (ms : List Member). is_locker ms x.join.node) (sym h.core_members) ∙ ap (λ (a : ℕ). is_locker x.core.members a) (h.node ∙ sym h.core_node) ∙ lk in
       let ow : OwnerOk w n x = j.owner n x (record { runs = at; ready = rd; locker = lks; held = eq }) in
       let r : Entry = entry_for x from q u in
-      answered answer (new_core w.log r (number_of x) x.core from q r.place k (ap (λ (b : ℕ). b + 1) ow.all_done) h.entries (record { node = refl; inc = ap (λ (ms : List Member). inc_of ms from) (sym h.core_members); req = refl }) (subst (λ (ms : List Member). 0 < inc_of ms from) (sym h.core_members) pos))))
+      answered answer (new_core w.log r (number_of x) x.core from q r.place k.0 (ap (λ (b : ℕ). b + 1) ow.all_done) h.entries (record { node = refl; inc = ap (λ (ms : List Member). inc_of ms from) (sym h.core_members); req = refl }) (subst (λ (ms : List Member). 0 < inc_of ms from) (sym h.core_members) pos))))
       (λ a b l c d e. option_cases (λ (o : Out M). Stays w.log o) x.last (nothing x) (λ t. tells x from (Granted t)) (λ none. stays_as w.log x k) (λ t some. stays_as w.log x k))
     where
       both : (a b : ℕ) → a ≤ b → nat_lt a b ≡ false → a ≡ b
@@ -180,12 +194,25 @@ module _ {M : Machine} where
         | InDoubt ↦ record { out = halts halt.Disk; appended = None; doubtful = Some e }
         | Unwritten ↦ unlogged (halts halt.Disk)
       ] in Left w.log (number_of x) l
-      answered Written c = stays_as (append (Some (entry_for x from q u)) (number_of x) w.log) (has_logged x (entry_for x from q u)) c
+      answered Written c = stays_as (append (Some (entry_for x from q u)) (number_of x) w.log) (has_logged x (entry_for x from q u)) (c, k.1)
       answered InDoubt c = stays_halts (leave (Some (entry_for x from q u)) (number_of x) w.log)
       answered Unwritten c = stays_halts w.log
 
   -- Joining
-  offer_stays : (l : Log) (x : NodeState M) (from : ℕ) (o : Offering) → CoreOk l x.core → Stays l (on_offer x from o)
+  taken_stays : (l : Log) (x : NodeState M) (s : ReconcileState) (o : Offering) → CoreOk l x.core → StaysAt l (Some (joined x o.count o.last (joining.taken (record s { stage = stage.Taking }) true).0))
+  taken_stays l x s o c = becomes_ready_cases (λ (r : ReconcileState × Step). StaysAt l (Some (joined x o.count o.last r.0))) (record s { stage = stage.Taking })
+      (λ a. stays_as l (joined x o.count o.last (record s { stage = stage.Open })) (c, λ got e. absurd (cc)))
+      (λ a. stays_as l (joined x o.count o.last (record s { stage = stage.Ready })) (c, λ got e. absurd (cc)))
+
+  pulls_stays : (l : Log) (x : NodeState M) (o : Offering) → Counted l x → Stays l (follows x o (joining.pulls_on x.join))
+  pulls_stays l x o kc =
+      let got : ℕ = unwrap_or (joining.pulled_bytes x.join) 0 in
+      let t : ReconcileState = (joining.pulls_on x.join).0 in
+      if_cases (λ (y : NodeState M). Stays l (tells y (locker_at x) (Need got))) (nat_eq got 0) _ _
+      (λ b. stays_as l (record x { join = t; offer = Some o; bytes = [] }) (kc.0, λ k e. sym (eq_true got 0 b) ∙ pulls_says (joining.locks x.join) got k e))
+      (λ b. stays_as l (record x { join = t }) (kc.0, λ k e. kc.1 got (has_bytes x.join b) ∙ pulls_says (joining.locks x.join) got k e))
+
+  offer_stays : (l : Log) (x : NodeState M) (from : ℕ) (o : Offering) → Counted l x → Stays l (on_offer x from o)
   offer_stays l x from o kc =
       let P : Out M → Type 0 = λ a. Stays l a in
       if_cases P (nat_eq from (locker_at x) && not (joining.locks x.join)) _ _
@@ -197,14 +224,14 @@ module _ {M : Machine} where
       (λ z rd. absurd (locker_not (joining.is_ready x.join) rd nr))
       (λ z r all. becomes_ready_cases (λ (r : ReconcileState × Step). P (follows x o r)) x.join
       (λ a. stays_as l x kc)
-      (λ a. stays_as l (joined x o.count o.last (record x.join { stage = stage.Ready })) kc))
+      (λ a. stays_as l (joined x o.count o.last (record x.join { stage = stage.Ready })) (kc.0, λ got e. absurd (cc))))
       (λ z r k a b c. option_cases P o.last (nothing x) (λ e. says_ready (joined (applied e x) o.count o.last (joining.taken (record x.join { stage = stage.Taking }) true).0))
       (λ none. stays_as l x kc)
-      (λ e some. stays_as l (joined (applied e x) o.count o.last (joining.taken (record x.join { stage = stage.Taking }) true).0) kc))
-      (λ z r. stays_as l (record x { join = (joining.pulls x.join).0; offer = Some o; bytes = [] }) kc)))
+      (λ e some. taken_stays l (applied e x) x.join o kc.0))
+      (λ z r. pulls_stays l x o kc)))
       (λ g. stays_as l x kc)
 
-  need_stays : (l : Log) (x : NodeState M) (from offset : ℕ) → CoreOk l x.core → Stays l (on_need x from offset)
+  need_stays : (l : Log) (x : NodeState M) (from offset : ℕ) → Counted l x → Stays l (on_need x from offset)
   need_stays l x from offset kc =
       let P : Out M → Type 0 = λ a. Stays l a in
       option_cases P x.replica (nothing x) (λ r. if joining.locks x.join && not (joining.is_open x.join) then sends_piece x from (M.encode r.registry) offset else nothing x)
@@ -214,11 +241,11 @@ module _ {M : Machine} where
       (λ g. stays_as l x kc))
 
   -- a pulling node isn't a ready locker
-  piece_stays : (l : Log) (x : NodeState M) (total offset : ℕ) (bytes : List ℕ) → CoreOk l x.core → Stays l (on_piece x total offset bytes)
+  piece_stays : (l : Log) (x : NodeState M) (total offset : ℕ) (bytes : List ℕ) → Counted l x → Stays l (on_piece x total offset bytes)
   piece_stays l x total offset bytes kc =
       pulled_cases (λ (r : ReconcileState × Step). Stays l (gathers x bytes r)) x.join total offset (length bytes)
       (stays_as l x kc)
-      (λ e lt. stays_as l (record x { join = record x.join { stage = stage.Pulling (offset + length bytes) }; bytes = x.bytes ++ bytes }) kc)
+      (λ e lt. stays_as l (record x { join = record x.join { stage = stage.Pulling (offset + length bytes) }; bytes = x.bytes ++ bytes }) (kc.0, λ got g. more offset got (kc.1 offset e) g))
       (λ e le.
       let s : ReconcileState = record x.join { stage = stage.Taking } in
       option_cases (λ (o : Out M). Stays l o) x.offer (nothing x) (λ o. elim (M.decode o.cap (x.bytes ++ bytes)) [
@@ -227,42 +254,45 @@ module _ {M : Machine} where
       ])
       (λ none. stays_as l x kc)
       (λ o some. option_cases (λ (o : Out M). Stays l o) (M.decode o.cap (x.bytes ++ bytes)) (tells (record x { join = (joining.taken s false).0; bytes = [] }) (locker_at x) (Need 0)) (λ registry. says_ready (joined (with_replica x registry o.count) o.count o.last (joining.taken s true).0))
-      (λ none. stays_as l (record x { join = (joining.taken s false).0; bytes = [] }) kc)
-      (λ registry there. stays_as l (joined (with_replica x registry o.count) o.count o.last (joining.taken s true).0) kc)))
+      (λ none. stays_as l (record x { join = (joining.taken s false).0; bytes = [] }) (kc.0, λ got g. pulls_says (joining.locks x.join) 0 got g))
+      (λ registry there. taken_stays l (with_replica x registry o.count) x.join o kc.0)))
+    where
+      more : (offset got : ℕ) → length x.bytes ≡ offset → stage.Pulling (offset + length bytes) ≡ stage.Pulling got → length (x.bytes ++ bytes) ≡ got
+      more offset got e g = let q : offset + length bytes ≡ got = cc in length-append x.bytes bytes ∙ ap (λ (k : ℕ). k + length bytes) e ∙ q
 
-  ready_stays : (l : Log) (x : NodeState M) (from : ℕ) → CoreOk l x.core → Stays l (on_ready x from)
+  ready_stays : (l : Log) (x : NodeState M) (from : ℕ) → Counted l x → Stays l (on_ready x from)
   ready_stays l x from kc = readied_cases (λ (r : ReconcileState × Step). Stays l (marks_ready x r)) x.join from
       (λ lk. stays_as l x kc)
       (λ lk o. stays_as l x kc)
-      (λ lk o a. begins_stays l (record x { join = record (joining.marked x.join from) { stage = stage.Open } }) kc)
+      (λ lk o a. begins_stays l (record x { join = record (joining.marked x.join from) { stage = stage.Open } }) (kc.0, λ got e. absurd (cc)))
       (λ lk o a. stays_as l (record x { join = joining.marked x.join from }) kc)
 
-  open_view_stays : (l : Log) (x : NodeState M) (from : ℕ) → CoreOk l x.core → Stays l (on_open_view x from)
+  open_view_stays : (l : Log) (x : NodeState M) (from : ℕ) → Counted l x → Stays l (on_open_view x from)
   open_view_stays l x from kc =
       let Q : Out M → Type 0 = λ o. Stays l o in
       opened_cases (λ (r : ReconcileState × Bool). Q (if nat_eq from (locker_at x) && r.1 then opens (record x { join = r.0 }) else nothing x)) x.join
-      (λ rd shut. if_cases Q (nat_eq from (locker_at x) && true) _ _ (λ g. begins_stays l (record x { join = record x.join { stage = stage.Open } }) kc) (λ g. stays_as l x kc))
+      (λ rd shut. if_cases Q (nat_eq from (locker_at x) && true) _ _ (λ g. begins_stays l (record x { join = record x.join { stage = stage.Open } }) (kc.0, λ got e. absurd (cc))) (λ g. stays_as l x kc))
       (if_cases Q (nat_eq from (locker_at x) && false) _ _ (λ g. begins_stays l x kc) (λ g. stays_as l x kc))
 
 
-  hears_stays : (w : World M) (n : ℕ) (x : NodeState M) (from : ℕ) (b : Body) (answer : Answer) → Invariant w → w.nodes n ≡ Some x → 0 < inc_of x.join.view.members from → CoreOk w.log x.core → Left w.log (number_of x) (receiving.hears x from b w.log.held answer)
+  hears_stays : (w : World M) (n : ℕ) (x : NodeState M) (from : ℕ) (b : Body) (answer : Answer) → Invariant w → w.nodes n ≡ Some x → 0 < inc_of x.join.view.members from → Counted w.log x → Left w.log (number_of x) (receiving.hears x from b w.log.held answer)
   hears_stays w n x from (Ask q u) answer j at pos k = ask_stays w n x from q u answer j at pos k
   hears_stays w n x from (Granted e) answer j at pos k = granted_stays w.log x e k
   hears_stays w n x from (Apply e) answer j at pos k = apply_stays w.log x from e k
   hears_stays w n x from (Applied p) answer j at pos k = applied_stays w.log x from p k
-  hears_stays w n x from (Release q) answer j at pos k = stays_as w.log (record x { core = (updating.released x.core from q).0 }) (release_core w.log x.core from q k)
+  hears_stays w n x from (Release q) answer j at pos k = stays_as w.log (record x { core = (updating.released x.core from q).0 }) (release_core w.log x.core from q k.0, k.1)
   hears_stays w n x from (Offer c cap last) answer j at pos k = offer_stays w.log x from (record { count = c; cap = cap; last = last }) k
   hears_stays w n x from (Need offset) answer j at pos k = need_stays w.log x from offset k
   hears_stays w n x from (Piece total offset bytes) answer j at pos k = piece_stays w.log x total offset bytes k
   hears_stays w n x from Ready answer j at pos k = ready_stays w.log x from k
   hears_stays w n x from OpenView answer j at pos k = open_view_stays w.log x from k
 
-  receive_stays : (w : World M) (n : ℕ) (x : NodeState M) (p : Sent) (answer : Answer) → Invariant w → w.nodes n ≡ Some x → CoreOk w.log x.core → Left w.log (number_of x) (receive x p w.log.held answer)
+  receive_stays : (w : World M) (n : ℕ) (x : NodeState M) (p : Sent) (answer : Answer) → Invariant w → w.nodes n ≡ Some x → Counted w.log x → Left w.log (number_of x) (receive x p w.log.held answer)
   receive_stays w n x p answer j at k = if_cases (λ (d : Logged M). Left w.log (number_of x) d) (receiving.counts x p) _ _
       (λ g. hears_stays w n x p.from p.body answer j at (lt_true 0 (inc_of (members_of x) p.from) (and_true (nat_eq p.view (number_of x)) (nat_lt 0 (inc_of (members_of x) p.from)) g).1) k)
       (λ g. stays_as w.log x k)
 
-  checkpoint_stays : (l : Log) (x : NodeState M) (held : ℕ) (good : Bool) → CoreOk l x.core → Stays l (checkpoint x held good)
+  checkpoint_stays : (l : Log) (x : NodeState M) (held : ℕ) (good : Bool) → Counted l x → Stays l (checkpoint x held good)
   checkpoint_stays l x held good k =
       let P : Out M → Type 0 = λ a. Stays l a in
       if_cases P (x.core.is_open && updating.locks x.core) _ _
@@ -270,45 +300,46 @@ module _ {M : Machine} where
       (λ g. stays_as l x k)
 
   -- Recovery
-  opens_stays : (l : Log) (y : NodeState M) → CoreOk l y.core → StaysAt l (opens y).node
+  opens_stays : (l : Log) (y : NodeState M) → Counted l y → StaysAt l (opens y).node
   opens_stays l y k = begins_stays l y k
 
-  goes_stays : (l : Log) (x z : NodeState M) (o : Offering) (t : Stage) → CoreOk l z.core → StaysAt l (goes_on (joined z o.count o.last (joining.becomes_ready (record x.join { stage = t })).0) o (joining.becomes_ready (record x.join { stage = t })).1).node
+  goes_stays : (l : Log) (x z : NodeState M) (o : Offering) (t : Stage) → Counted l z → StaysAt l (goes_on (joined z o.count o.last (joining.becomes_ready (record x.join { stage = t })).0) o (joining.becomes_ready (record x.join { stage = t })).1).node
   goes_stays l x z o t k = becomes_ready_cases (λ (r : ReconcileState × Step). StaysAt l (goes_on (joined z o.count o.last r.0) o r.1).node) (record x.join { stage = t })
-      (λ a. opens_stays l (joined z o.count o.last (record x.join { stage = stage.Open })) k)
-      (λ a. stays_as l (joined z o.count o.last (record x.join { stage = stage.Ready })) k)
+      (λ a. opens_stays l (joined z o.count o.last (record x.join { stage = stage.Open })) (k.0, λ got e. absurd (cc)))
+      (λ a. stays_as l (joined z o.count o.last (record x.join { stage = stage.Ready })) (k.0, λ got e. absurd (cc)))
 
-  recovers_stays : (l : Log) (x : NodeState M) (cap : ℕ) (order : List Entry) → CoreOk l x.core → StaysAt l (recovers x cap order).node
-  recovers_stays l x cap order k =
+  recovers_stays : (l : Log) (x : NodeState M) (cap : ℕ) (order : List Entry) → x.bytes ≡ [] → Counted l x → StaysAt l (recovers x cap order).node
+  recovers_stays l x cap order none k =
       let o : Offering = record { count = length order; cap = cap; last = last_of order } in
       let registry : M.Registry = registry_at M cap order (length order) in
       let P : ReconcileState × Step → Type 0 = λ r. StaysAt l (hears_itself x o registry r).node in
+      let same : Counted l (joined x o.count o.last x.join) = (k.0, λ got e. ap (λ (b : List ℕ). length b) (sym none) ∙ k.1 got e) in
       offered_cases P x.join o.count (place_of o.last) (done_within x cap)
-      (λ z. stays_as l (joined x o.count o.last x.join) k)
-      (λ z rd. if_cases (λ (s : Step). StaysAt l (hears_itself x o registry (x.join, s)).node) (joining.locks x.join) _ _ (λ g. stays_as l (joined x o.count o.last x.join) k) (λ g. stays_as l (joined x o.count o.last x.join) k))
+      (λ z. stays_as l (joined x o.count o.last x.join) same)
+      (λ z rd. if_cases (λ (s : Step). StaysAt l (hears_itself x o registry (x.join, s)).node) (joining.locks x.join) _ _ (λ g. stays_as l (joined x o.count o.last x.join) same) (λ g. stays_as l (joined x o.count o.last x.join) same))
       (λ z r all. becomes_ready_cases P x.join
-      (λ a. opens_stays l (joined x o.count o.last (record x.join { stage = stage.Open })) k)
-      (λ a. stays_as l (joined x o.count o.last (record x.join { stage = stage.Ready })) k))
+      (λ a. opens_stays l (joined x o.count o.last (record x.join { stage = stage.Open })) (k.0, λ got e. absurd (cc)))
+      (λ a. stays_as l (joined x o.count o.last (record x.join { stage = stage.Ready })) (k.0, λ got e. absurd (cc))))
       (λ z r q a b c.
       let e = place_is o.last o.count c in
       let taking : ReconcileState = record x.join { stage = stage.Taking } in
       let R : Option Entry → Type 0 = λ t. let u : Out M = elim t [ None ↦ nothing x | Some d ↦ goes_on (joined (applied d x) o.count o.last (joining.taken taking true).0) o (joining.taken taking true).1 ] in StaysAt l u.node in
       subst R (sym e.1) (goes_stays l x (applied e.0 x) o stage.Taking k))
-      (λ z r. goes_stays l x (with_replica x registry o.count) o (if joining.locks x.join then stage.Taking else stage.Pulling 0) k)
+      (λ z r. goes_stays l x (with_replica x registry o.count) o (if joining.locks x.join then stage.Taking else stage.Pulling (unwrap_or (joining.pulled_bytes x.join) 0)) k)
 
   -- The cores of a world
   abbrev pub Cores : World M → Type 0
-  Cores w = (n : ℕ) (x : NodeState M) → w.nodes n ≡ Some x → CoreOk w.log x.core
+  Cores w = (n : ℕ) (x : NodeState M) → w.nodes n ≡ Some x → Counted w.log x
 
   -- one node leaves o, and the log grew
   cores_put : (w u : World M) (n : ℕ) (o : Option (NodeState M)) → Cores w → Extends w u → u.nodes ≡ put w.nodes n o → StaysAt u.log o → Cores u
   cores_put w u n o h g e s m z at = ⊎_elim
       (λ (c : (m ≡ n) × (o ≡ Some z)). s z c.1)
-      (λ (c : (m ≢ n) × (w.nodes m ≡ Some z)). grown_core w.log u.log z.core g (h m z c.1))
+      (λ (c : (m ≢ n) × (w.nodes m ≡ Some z)). (let k = h m z c.1 in (grown_core w.log u.log z.core g k.0, k.1)))
       (put_cases w.nodes n o m z ((λ i. sym e i m) ∙ at))
 
   cores_same : (w u : World M) → Cores w → Extends w u → u.nodes ≡ w.nodes → Cores u
-  cores_same w u h g e n x at = grown_core w.log u.log x.core g (h n x ((λ i. sym e i n) ∙ at))
+  cores_same w u h g e n x at = let k = h n x ((λ i. sym e i n) ∙ at) in (grown_core w.log u.log x.core g k.0, k.1)
 
   noted_nodes : (w : World M) (n : ℕ) (x : NodeState M) (u : Update) → ((noted n x u w).nodes ≡ w.nodes) × ((noted n x u w).log ≡ w.log)
   noted_nodes w n x u = if_cases (λ (v : World M). (v.nodes ≡ w.nodes) × (v.log ≡ w.log)) (may_submit x) _ _ (λ g. (refl, refl)) (λ g. (refl, refl))
@@ -323,7 +354,7 @@ module _ {M : Machine} where
       (λ lk. if_cases P (nat_lt v.number w.log.held) _ _
       (λ f. dies (halt.Fenced w.log.held) w refl (log_same w.log))
       (λ f. opened opening g dies))
-      (λ nl. subst (λ (y : NodeState M). Cores (absorb n (nothing y) w)) (sym (entered_is x v g)) (cores_put w (absorb n (nothing (taken_view v x)) w) n (Some (taken_view v x)) h (log_same w.log) refl (stays_as w.log (taken_view v x) (enter_core w.log x.core v)))))
+      (λ nl. subst (λ (y : NodeState M). Cores (absorb n (nothing y) w)) (sym (entered_is x v g)) (cores_put w (absorb n (nothing (taken_view v x)) w) n (Some (taken_view v x)) h (log_same w.log) refl (stays_as w.log (taken_view v x) (enter_core w.log x.core v, λ got e. absurd (cc))))))
       (λ g. h)
     where
       opened : (opening : Opening) → takes_view x v ≡ true → ((c : HaltCause) (u : World M) → u.nodes ≡ w.nodes → GrewLog w.log u.log → Cores (absorb n (halts c) u)) → Cores (elim opening [
@@ -335,12 +366,12 @@ module _ {M : Machine} where
           let fg = found_grew w.log found in
           subst (λ (y : NodeState M). Cores (absorb n (recovers y w.log.cap (found_log found w.log).order) (with_log l w))) (sym (entered_is x v g))
           (cores_put w (absorb n (recovers (taken_view v x) w.log.cap (found_log found w.log).order) (with_log l w)) n (recovers (taken_view v x) w.log.cap (found_log found w.log).order).node h (record { order = fg.order; cap = fg.cap }) refl
-          (recovers_stays l (taken_view v x) w.log.cap (found_log found w.log).order (enter_core l x.core v)))
+          (recovers_stays l (taken_view v x) w.log.cap (found_log found w.log).order refl (enter_core l x.core v, λ got e. absurd (cc))))
       opened (Refused raised cause) g dies = dies cause (with_log (raise raised v.number w.log) w) refl (raise_grew w.log raised v.number)
 
   pub cores_keep : (w : World M) (e : Event) → Invariant w → Cores w → Cores (happens w e)
   cores_keep w (Start n) j h = option_cases (λ (u : World M). Cores u) (w.nodes n) (started_world w n) (λ x. w)
-      (λ none. cores_put w (started_world w n) n (Some (fresh M n (w.starts n + 1))) h (log_same w.log) refl (stays_as w.log (fresh M n (w.starts n + 1)) (record { greatest = λ m lt g. absurd (omega (arith, lt)); awaits = λ s e. absurd (cc) })))
+      (λ none. cores_put w (started_world w n) n (Some (fresh M n (w.starts n + 1))) h (log_same w.log) refl (stays_as w.log (fresh M n (w.starts n + 1)) (record { greatest = λ m lt g. absurd (omega (arith, lt)); awaits = λ s e. absurd (cc) }, λ got e. absurd (cc))))
       (λ x some. h)
   cores_keep w (Declare v) j h = if_cases (λ (u : World M). Cores u) (may_declare w v) _ _ (λ g. h) (λ g. h)
   cores_keep w (Install n v opening) j h = at_keeps (λ (u : World M). Cores u) w n (λ x. elim (view_in w.chain v) [ None ↦ w | Some u ↦ install w n x u opening ]) h
@@ -352,7 +383,7 @@ module _ {M : Machine} where
           refl (receive_stays w p.to x p answer j at (h p.to x at))))
   cores_keep w (Submit n u valid) j h = at_keeps (λ (v : World M). Cores v) w n (λ x. absorb n (submit x u) (noted n x u w)) h (λ x at.
       let nn = noted_nodes w n x u in
-      cores_put w (absorb n (submit x u) (noted n x u w)) n (submit x u).node h (subst (λ (l : Log). GrewLog w.log l) (sym nn.1) (log_same w.log)) (ap (λ (f : ℕ → Option (NodeState M)). put f n (submit x u).node) nn.0) (submit_stays (noted n x u w).log x u (subst (λ (l : Log). CoreOk l x.core) (sym nn.1) (h n x at))))
+      cores_put w (absorb n (submit x u) (noted n x u w)) n (submit x u).node h (subst (λ (l : Log). GrewLog w.log l) (sym nn.1) (log_same w.log)) (ap (λ (f : ℕ → Option (NodeState M)). put f n (submit x u).node) nn.0) (submit_stays (noted n x u w).log x u (subst (λ (l : Log). Counted l x) (sym nn.1) (h n x at))))
   cores_keep w (Read n) j h = at_keeps (λ (v : World M). Cores v) w n (λ x. if joining.is_open x.join then absorb n (nothing x) (reads n x w) else w) h (λ x at. if_cases (λ (v : World M). Cores v) (joining.is_open x.join) _ _ (λ op. cores_put w (absorb n (nothing x) (reads n x w)) n (Some x) h (log_same w.log) refl (stays_as w.log x (h n x at))) (λ op. h))
   cores_keep w (Tick n) j h = at_keeps (λ (v : World M). Cores v) w n (λ x. absorb n (tick x) w) h (λ x at. cores_put w (absorb n (tick x) w) n (Some x) h (log_same w.log) refl (stays_as w.log x (h n x at)))
   cores_keep w (Clock n stamp) j h = if_cases (λ (v : World M). Cores v) (nat_lt stamp (2 ^ 64)) _ _ (λ g. at_keeps (λ (v : World M). Cores v) w n (λ x. absorb n (clock x stamp) w) h (λ x at. cores_put w (absorb n (clock x stamp) w) n (Some (record x { stamp = stamp })) h (log_same w.log) refl (stays_as w.log (record x { stamp = stamp }) (h n x at)))) (λ g. h)

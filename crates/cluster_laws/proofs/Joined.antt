@@ -1,4 +1,5 @@
 -- Who counts as ready is ready: what lockers count, and what messages say of it.
+use Rattle.std.proofs.Common.{unwrap_or}
 use Rattle.std.proofs.Common.{◌^◌, ◌≡◌, ◌≢◌, ⊎_elim, ℕ, ◌+◌, ◌<◌, ◌≤◌, Bool, true, false, not, ◌&&◌, List, [], ◌∷◌, ◌++◌, length, Option, Some, None, nat_eq, nat_lt, if◌then◌else◌, refl, sym, ap, ◌∙◌, subst, arith}
 use Rattle.gum_messages.specs.declared.view.View.{View}
 use Rattle.gum_messages.specs.Members.{is_locker, is_member}
@@ -157,6 +158,9 @@ uncounted s v t asc lk na = by v.members refl asc lk na
         let far : nat_eq b.node s.node ≡ false = ap (λ (k : ℕ). nat_eq b.node k) (sym mn) ∙ apart_node m.node b.node lt in
         let no : joining.counts_ready T b.node ≡ false = (λ i. none_marked s v t (length v.members) b.node i || (nat_eq b.node s.node && joining.is_ready T)) ∙ (λ i. far i && joining.is_ready T) in
         and_no (joining.counts_ready T m.node) (joining.counts_ready T b.node) (list_all (λ (m : Member). joining.counts_ready T m.node) bs) no
+
+pulls_unready : (s : ReconcileState) (got : ℕ) → joining.is_ready (joining.pulls_from s got).0 ≡ false
+pulls_unready s got = if_cases (λ (t : Stage). joining.is_ready (record s { stage = t }) ≡ false) (joining.locks s) stage.Taking (stage.Pulling got) (λ e. refl) (λ e. refl)
 
 module _ {M : Machine} where
   calm_asks : (x : NodeState M) (next : Option ℕ) → calm (asks x next) ≡ true
@@ -418,11 +422,14 @@ module _ {M : Machine} where
       (λ z r k a b c. option_cases P o.last (nothing x) (λ e. says_ready (joined (applied e x) o.count o.last (joining.taken (record x.join { stage = stage.Taking }) true).0))
       (λ none. still)
       (λ e some. says_good w n x (joined (applied e x) o.count o.last (joining.taken (record x.join { stage = stage.Taking }) true).0) stage.Ready inv j at refl nl (ap (λ (r : ReconcileState × Step). r.0) (taken_ready x.join stage.Taking nl))))
-      (λ z r. need_fine w n x (record x { join = (joining.pulls x.join).0; offer = Some o; bytes = [] }) (if joining.locks x.join then stage.Taking else stage.Pulling 0) (locker_at x) 0 j at nr (pulls_unready x.join) refl)))
+      (λ z r.
+      let got : ℕ = unwrap_or (joining.pulled_bytes x.join) 0 in
+      let t : ReconcileState = (joining.pulls_on x.join).0 in
+      let st : Stage = if joining.locks x.join then stage.Taking else stage.Pulling got in
+      if_cases (λ (y : NodeState M). P (tells y (locker_at x) (Need got))) (nat_eq got 0) _ _
+      (λ b. need_fine w n x (record x { join = t; offer = Some o; bytes = [] }) st (locker_at x) got j at nr (pulls_unready x.join got) refl)
+      (λ b. need_fine w n x (record x { join = t }) st (locker_at x) got j at nr (pulls_unready x.join got) refl))))
       (λ g. still)
-    where
-      pulls_unready : (s : ReconcileState) → joining.is_ready (joining.pulls s).0 ≡ false
-      pulls_unready s = if_cases (λ (t : Stage). joining.is_ready (record s { stage = t }) ≡ false) (joining.locks s) stage.Taking (stage.Pulling 0) (λ e. refl) (λ e. refl)
 
   piece_fine : (w : World M) (n : ℕ) (x : NodeState M) (total offset : ℕ) (bytes : List ℕ) → Invariant w → Joined w → w.nodes n ≡ Some x → Fine w n x (on_piece x total offset bytes)
   piece_fine w n x total offset bytes inv j at =
@@ -442,11 +449,8 @@ module _ {M : Machine} where
       ])
       (λ none. still)
       (λ o some. option_cases (λ (o : Out M). Fine w n x o) (M.decode o.cap (x.bytes ++ bytes)) (tells (record x { join = (joining.taken s false).0; bytes = [] }) (locker_at x) (Need 0)) (λ registry. says_ready (joined (with_replica x registry o.count) o.count o.last (joining.taken s true).0))
-      (λ none. need_fine w n x (record x { join = (joining.taken s false).0; bytes = [] }) (if joining.locks x.join then stage.Taking else stage.Pulling 0) (locker_at x) 0 j at nr (pulls_unready x.join) refl)
+      (λ none. need_fine w n x (record x { join = (joining.taken s false).0; bytes = [] }) (if joining.locks x.join then stage.Taking else stage.Pulling 0) (locker_at x) 0 j at nr (pulls_unready x.join 0) refl)
       (λ registry there. says_good w n x (joined (with_replica x registry o.count) o.count o.last (joining.taken s true).0) stage.Ready inv j at refl nl (ap (λ (r : ReconcileState × Step). r.0) (taken_ready x.join stage.Taking nl)))))
-    where
-      pulls_unready : (s : ReconcileState) → joining.is_ready (joining.pulls s).0 ≡ false
-      pulls_unready s = if_cases (λ (t : Stage). joining.is_ready (record s { stage = t }) ≡ false) (joining.locks s) stage.Taking (stage.Pulling 0) (λ e. refl) (λ e. refl)
 
   -- a Ready marks its sender; where all count, the view opens
   ready_fine : (w : World M) (n : ℕ) (x : NodeState M) (from : ℕ) → Invariant w → Joined w → w.nodes n ≡ Some x → 0 < inc_of x.join.view.members from → Readied w from (inc_of x.join.view.members from) x.join.view.number → Fine w n x (on_ready x from)
@@ -678,7 +682,7 @@ module _ {M : Machine} where
       let taking : ReconcileState = record X.join { stage = stage.Taking } in
       let R : Option Entry → Type 0 = λ t. let u : Out M = elim t [ None ↦ nothing X | Some d ↦ goes_on (joined (applied d X) o.count o.last (joining.taken taking true).0) o (joining.taken taking true).1 ] in Fine w n x u in
       subst R (sym e.1) (goes_fine w n x (applied e.0 X) v o stage.Taking inv at up))
-      (λ z r. goes_fine w n x (with_replica X registry o.count) v o (if joining.locks X.join then stage.Taking else stage.Pulling 0) inv at up)
+      (λ z r. goes_fine w n x (with_replica X registry o.count) v o (if joining.locks X.join then stage.Taking else stage.Pulling (unwrap_or (joining.pulled_bytes X.join) 0)) inv at up)
 
   -- worlds with the same messages, in which what was ready is so
   carried : (w u : World M) → Joined w → ((m i v : ℕ) → Readied w m i v → Readied u m i v) → ((n : ℕ) (x : NodeState M) → u.nodes n ≡ Some x → (w.nodes n ≡ Some x) ⊎ (x.join.view.number ≡ 0) × (x.join.view.members ≡ []) × (x.join.ready ≡ [])) → u.pool ≡ w.pool → ((k : ℕ) (p : Sent) (V : View) → slice_get w.pool k ≡ Some p → view_in u.chain p.view ≡ Some V → view_in w.chain p.view ≡ Some V) → Joined u

@@ -1,4 +1,5 @@
 -- A view whose locker is open opens at each member.
+use Rattle.std.proofs.Common.{unwrap_or}
 use Rattle.std.proofs.Common.{◌≡◌, ◌≢◌, ◌⊎◌, inl, inr, ⊎_elim, ℕ, zero, suc, ◌+◌, ◌<◌, ◌≤◌, Bool, true, false, not, ◌&&◌, List, [], ◌∷◌, ◌++◌, length, drop, Option, Some, None, nat_eq, nat_lt, if◌then◌else◌, slice_get, refl, sym, ap, ◌∙◌, subst, arith}
 use Rattle.gum_messages.specs.declared.member.Member.{Member}
 use Rattle.gum_messages.specs.declared.view.View.{View}
@@ -53,7 +54,7 @@ use Rattle.cluster_rules.specs.Updates.{applied}
 use Rattle.cluster_rules.specs.Joins.{follows, gathers, joined, known_done, offer_each, offered_cap, on_need, on_offer, on_piece, piece, says_ready, sends_piece, takes_state, with_replica}
 use Rattle.cluster_laws.proofs.Inv.{state_bytes}
 use Rattle.cluster_laws.proofs.Applying.{and_true, done_at, locker_not, state_of}
-use Rattle.cluster_laws.proofs.Offering.{all_take, place_is, taken_ready}
+use Rattle.cluster_laws.proofs.Offering.{all_take, has_bytes, place_is, taken_ready}
 use Rattle.std.specs.List.{list_all}
 use Rattle.std.specs.Prelude.{count_by, filter, ◌||◌}
 use Rattle.std.proofs.lemmas.List.Sums.{length-filter}
@@ -89,6 +90,11 @@ member_at (m ∷ ms) n h = elim (nat_eq m.node n) as (λ (b : Bool). nat_eq m.no
 
 piece_size : (l : List ℕ) (got c : ℕ) → c ≤ length l - got → length (take c (drop got l)) ≡ c
 piece_size l got c h = simp (length-take, length-drop) (omega (arith, h))
+
+fits_in : (l : List ℕ) (got : ℕ) → length (take got l) ≡ got → got ≤ length l
+fits_in l zero e = omega arith
+fits_in [] (suc k) e = absurd (omega (arith, e))
+fits_in (a ∷ l) (suc k) e = let r = fits_in l k (omega (arith, e)) in omega (arith, r)
 
 zero_view : {n : ℕ} → 1 ≤ n → n ≡ 0 → ⊥
 zero_view h e = omega (arith, h, e)
@@ -316,6 +322,20 @@ module _ {M : Machine} where
           ready = sends w v w.log m z es m (locker_at z) (locker_of v.members) 0 Ready (zv ∙ yr.view) (zn ∙ yk.node) (ap (λ (t : View). locker_of t.members) (zv ∙ yr.view)) refl;
         }))
 
+    -- the state that the locker sends is the one that was offered
+    state_sent : (v : View) (w : World M) (m : ℕ) (x y : NodeState M) (r : Replica M) (o : Offering) → Stand w v → 0 < inc_of v.members m → 0 < inc_of v.members (locker_of v.members) → w.nodes (locker_of v.members) ≡ Some x → joining.is_open x.join ≡ false → x.replica ≡ Some r → w.nodes m ≡ Some y → y.offer ≡ Some o → M.encode r.registry ≡ state_bytes w o.count
+    state_sent v w m x y r o h lm ll xat shut rep yat of =
+        let L : ℕ = locker_of v.members in
+        let xr = runs_in w v L x h ll xat in
+        let yr = runs_in w v m y h lm yat in
+        let xk : NodeOk w L x = h.sound.inv.nodes L x xat in
+        let p = (h.sound.inv.nodes m y yat).pull o of in
+        let lks : joining.locks x.join ≡ true = ap (λ (t : View). is_locker t.members x.join.node) xr.view ∙ ap (λ (a : ℕ). is_locker v.members a) xk.node ∙ locker_locks v.members ll in
+        let rd : joining.is_ready x.join ≡ true = h.sound.lockers L x xat lks (λ e. zero_view (h.shape.numbered) (ap (λ (t : View). t.number) (sym xr.view) ∙ e)) in
+        let ct : Some (done_of x) ≡ Some o.count = sym (xk.closed rd lks shut) ∙ ap w.log.count (ap (λ (t : View). t.number) (xr.view ∙ sym yr.view)) ∙ p.1 in
+        let dn : done_of x ≡ o.count = cc in
+        ap M.encode (xk.registry r rep ∙ ap (registry_at M w.log.cap w.log.order) (sym (done_at x r rep) ∙ dn))
+
     -- one piece
     pull_step : (v : View) (w0 w : World M) (m : ℕ) (x y : NodeState M) (got : ℕ) (r : Replica M) → Stand w v → Near w0 w → 0 < inc_of v.members m → 0 < inc_of v.members (locker_of v.members) → (locker_of v.members ≡ m → ⊥) → w.nodes (locker_of v.members) ≡ Some x → joining.is_open x.join ≡ false → x.replica ≡ Some r → w.nodes m ≡ Some y → y.join.stage ≡ stage.Pulling got → got ≤ length (M.encode r.registry) → Held w (mail v m (locker_of v.members) (Need got))
         → ((u : World M) (z : NodeState M) (c : ℕ) → 0 < c → got + c < length (M.encode r.registry) → Stand u v → Near w0 u → u.nodes (locker_of v.members) ≡ Some x → u.nodes m ≡ Some z → z.join.stage ≡ stage.Pulling (got + c) → Held u (mail v m (locker_of v.members) (Need (got + c))) → Leads goes_on u (λ t. Told v w0 m x t))
@@ -366,13 +386,8 @@ module _ {M : Machine} where
         let q = yk.pulled got sg in
         let o : Offering = q.0 in
         let p = yk.pull o q.1 in
-        let rd : joining.is_ready x.join ≡ true = h1.sound.lockers L x x1 lks (λ e. zero_view (h1.shape.numbered) (ap (λ (t : View). t.number) (sym xr.view) ∙ e)) in
-        let xk1 : NodeOk u1 L x = h1.sound.inv.nodes L x x1 in
-        let ct : Some (done_of x) ≡ Some o.count = sym (xk1.closed rd lks shut) ∙ ap u1.log.count (ap (λ (t : View). t.number) (xr.view ∙ sym yr.view)) ∙ p.1 in
-        let dn : done_of x ≡ o.count = cc in
         let g : M.Registry = registry_at M u1.log.cap u1.log.order o.count in
-        let rg : r.registry ≡ g = xk1.registry r rep ∙ ap (registry_at M u1.log.cap u1.log.order) (sym (done_at x r rep) ∙ dn) in
-        let Se : S ≡ state_bytes u1 o.count = ap M.encode rg in
+        let Se : S ≡ state_bytes u1 o.count = state_sent v u1 m x y r o h1 lm ll x1 shut rep y1 q.1 in
         let le : total ≤ got + length bs = lt_false (got + length bs) total ge in
         let bb : bs ≡ take (length bs) (drop got S) = ap (λ (k : ℕ). take k (drop got S)) (sym size) in
         let all : y.bytes ++ bs ≡ S = (λ i. (q.2 ∙ ap (take got) (sym Se)) i ++ bb i) ∙ sym (take-add got (length bs) S) ∙ take_all (got + length bs) S le in
@@ -400,6 +415,19 @@ module _ {M : Machine} where
     pull_go zero v w0 w m x y got r h nr lm ll apart xat shut rep yat sg fit bound hd = pull_step v w0 w m x y got r h nr lm ll apart xat shut rep yat sg fit hd (λ u z c pos lt. absurd (omega (arith, bound, lt)))
     pull_go (suc k) v w0 w m x y got r h nr lm ll apart xat shut rep yat sg fit bound hd = pull_step v w0 w m x y got r h nr lm ll apart xat shut rep yat sg fit hd (λ u z c pos lt h1 n1 x1 z1 s1 hd1.
         pull_go k v w0 u m x z (got + c) r h1 n1 lm ll apart x1 shut rep z1 s1 (omega (arith, lt)) (omega (arith, bound, pos)) hd1)
+
+    -- the pull begins, or goes on with the bytes that there are
+    pull_begins : (v : View) (w0 w : World M) (m : ℕ) (x y z : NodeState M) (got : ℕ) (r : Replica M) (e : Event) → Stand w v → Near w0 w → goes_on e ≡ true → 0 < inc_of v.members m → 0 < inc_of v.members (locker_of v.members) → (locker_of v.members ≡ m → ⊥) → w.nodes (locker_of v.members) ≡ Some x → joining.is_open x.join ≡ false → x.replica ≡ Some r → w.nodes m ≡ Some y → happens w e ≡ absorb m (tells z (locker_at y) (Need got)) w → z.join ≡ record y.join { stage = stage.Pulling got } → z.core ≡ y.core → got ≤ length (M.encode r.registry) → Leads goes_on w (λ u. Told v w0 m x u)
+    pull_begins v w0 w m x y z got r e h nr g lm ll apart xat shut rep yat ev zj zc fit =
+        let L : ℕ = locker_of v.members in
+        let yr = runs_in w v m y h lm yat in
+        let yk : NodeOk w m y = h.sound.inv.nodes m y yat in
+        let es : List Effect = Send (packet z (locker_at y) (Need got)) ∷ [] in
+        let u : World M = turned w w.log m z es in
+        let few : length z.core.queue ≤ length y.core.queue = let q : length z.core.queue ≡ length y.core.queue = ap (λ (c : CoreState). length c.queue) zc in omega (arith, q) in
+        move law w v e m y z es (λ u. Told v w0 m x u) g h ev yat (ap (λ (t : ReconcileState). t.view) zj) (ap (λ (t : ReconcileState). t.inc) zj) (λ h1.
+        pull_go (length (M.encode r.registry)) v w0 u m x z got r h1 (near_turned w0 w m y z es nr yat few) lm ll apart (put_other w.nodes m L (Some z) x apart xat) shut rep (put_self w.nodes m (Some z)) (ap (λ (t : ReconcileState). t.stage) zj) fit (omega arith)
+            (sends w v w.log m z es m (locker_at y) L 0 (Need got) (ap (λ (t : ReconcileState). t.view) zj ∙ yr.view) (ap (λ (t : ReconcileState). t.node) zj ∙ yk.node) (ap (λ (t : View). locker_of t.members) yr.view) refl))
 
     each_sent : (x : NodeState M) (b : Body) (ms : List Member) (j : ℕ) (t : Member) → slice_get ms j ≡ Some t → joining.waits_for x.join t.node ≡ true → (k : ℕ) × (slice_get (sent (offer_each x b ms)) k ≡ Some (packet x t.node b))
     each_sent x b [] j t e h = absurd (cc)
@@ -485,12 +513,17 @@ module _ {M : Machine} where
             ∙ ap (λ (r : ReconcileState × Step). says_ready (joined (applied pe.0 y) o.count o.last r.0)) tr in
         told_go v w u1 m y z x e h1 n1 refl lm apart x1 y1 (ev ∙ ap (λ (r : Out M). absorb m r u1) fo) refl refl refl (omega arith))
         (λ nz nr ev.
-        let z : NodeState M = record y { join = (joining.pulls y.join).0; offer = Some o; bytes = [] } in
-        let es2 : List Effect = Send (packet z (locker_at y) (Need 0)) ∷ [] in
-        let u2 : World M = turned u1 u1.log m z es2 in
-        move law u1 v e m y z es2 Q refl h1 ev y1 refl refl (λ h2.
-        pull_go (length (M.encode rep.0.registry)) v w u2 m x z 0 rep.0 h2 (near_turned w u1 m y z es2 n1 y1 (omega arith)) lm ll apart (put_other u1.nodes m L (Some z) x apart x1) shut rep.1 (put_self u1.nodes m (Some z)) (ap (λ (c : Bool). if c then stage.Taking else stage.Pulling 0) nlk) (omega arith) (omega arith)
-            (sends u1 v u1.log m z es2 m (locker_at y) L 0 (Need 0) yo.1.view yk.node (ap (λ (t : View). locker_of t.members) yo.1.view) refl)))
+        let got : ℕ = unwrap_or (joining.pulled_bytes y.join) 0 in
+        let t : ReconcileState = (joining.pulls_on y.join).0 in
+        let tj : t ≡ record y.join { stage = stage.Pulling got } = ap (λ (c : Bool). record y.join { stage = if c then stage.Taking else stage.Pulling got }) nlk in
+        if_cases (λ (z : NodeState M). happens u1 e ≡ absorb m (tells z (locker_at y) (Need got)) u1 → Leads goes_on u1 Q) (nat_eq got 0) _ _
+        (λ b ev. pull_begins v w u1 m x y (record y { join = t; offer = Some o; bytes = [] }) got rep.0 e h1 n1 refl lm ll apart x1 shut rep.1 y1 ev tj refl (omega (arith, eq_true got 0 b)))
+        (λ b ev.
+        let pulling : y.join.stage ≡ stage.Pulling got = has_bytes y.join b in
+        let q = yk.pulled got pulling in
+        let fit : got ≤ length (M.encode rep.0.registry) = fits_in (M.encode rep.0.registry) got (ap (λ (l : List ℕ). length (take got l)) (state_sent v u1 m x y rep.0 q.0 h1 lm ll x1 shut rep.1 y1 q.1) ∙ ap (λ (l : List ℕ). length l) (sym q.2) ∙ (h1.sound.cores m y y1).1 got pulling) in
+        pull_begins v w u1 m x y (record y { join = t }) got rep.0 e h1 n1 refl lm ll apart x1 shut rep.1 y1 ev tj refl fit)
+        ev)
         ev)
         ev)
 

@@ -291,7 +291,7 @@ module _ {M : Machine} where
   awaited w v m y s h lm yat sp =
       let rn = member_runs w v m y h lm yat in
       let mem : y.core.members ≡ v.members = (h.stand.sound.inv.nodes m y yat).core_members ∙ ap (λ (t : View). t.members) rn.view in
-      let aw = (h.stand.sound.cores m y yat).awaits s sp in
+      let aw = (h.stand.sound.cores m y yat).0.awaits s sp in
       let rs = receiver_says y.core s.at aw.0 aw.1 in
       let there : slice_get (spread_of v.members) s.at ≡ Some rs.0 = ap (λ (ms : List Member). slice_get (spread_of ms) s.at) (sym mem) ∙ rs.1 in
       let sm = spread_member v.members s.at rs.0 h.stand.shape.ascending there in

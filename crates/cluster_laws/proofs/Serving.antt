@@ -241,7 +241,7 @@ module _ {M : Machine} where
       let x : NodeState M = ow.node in
       let xat : u1.nodes L ≡ Some x = ow.runs.node in
       let xk : NodeOk u1 L x = h1.stand.sound.inv.nodes L x xat in
-      let xc = h1.stand.sound.cores L x xat in
+      let xc = (h1.stand.sound.cores L x xat).0 in
       let y1 : u1.nodes m ≡ Some y = put_self w.nodes m (Some y) in
       let yk1 : NodeOk u1 m y = h1.stand.sound.inv.nodes m y y1 in
       let inc : inc_of x.core.members m ≡ y.join.inc = ap (λ (ms : List Member). inc_of ms m) ow.members ∙ sym yr.inc in
