@@ -35,3 +35,4 @@ pub mod Standing
 pub mod Joined
 pub mod Opens
 pub mod Witness
+pub mod Advancing

@@ -5,7 +5,7 @@
 
 mod progress;
 
-pub use progress::{unstuck};
+pub use progress::{monotone, unstuck};
 
 ghost use Rattle.std.specs.Prelude.{◌≡◌, ◌++◌, ℕ, List};
 ghost use Rattle.cluster_rules.specs.Machines.{Machine, IsMachine};

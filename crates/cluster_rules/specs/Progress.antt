@@ -1,5 +1,6 @@
--- What a world can still come to, where messages get through, the disk answers and nobody dies.
-use Rattle.std.specs.Prelude.{◌≡◌, ℕ, ◌+◌, ◌<◌, ◌≤◌, Bool, true, false, List, [], ◌∷◌, length, Option, Some, None}
+-- Progress: what a world can still come to, where messages get through, the disk answers and nobody dies, and what is
+-- not taken back.
+use Rattle.std.specs.Prelude.{◌≡◌, ◌⊎◌, ℕ, ◌+◌, ◌<◌, ◌≤◌, Bool, true, false, List, [], ◌∷◌, ◌++◌, length, Option, Some, None}
 use Rattle.std.specs.List.{list_all}
 use Rattle.gum_messages.specs.declared.member.Member.{Member}
 use Rattle.gum_messages.specs.declared.view.View.{View}
@@ -10,9 +11,9 @@ use Rattle.update_records.specs.Grammar.{last_place}
 use Rattle.view_reconcile.specs.Chains.{view_in}
 use Rattle.view_reconcile.specs.Joining as joining
 use Rattle.cluster_rules.specs.Machines.{Machine}
-use Rattle.cluster_rules.specs.Nodes.{NodeState}
+use Rattle.cluster_rules.specs.Nodes.{NodeState, done_of, number_of}
 use Rattle.cluster_rules.specs.Updates.{Written}
-use Rattle.cluster_rules.specs.Worlds.{Deliver, Event, Tick, World, run}
+use Rattle.cluster_rules.specs.Worlds.{Deliver, Event, Tick, World, happens, run}
 
 -- A message is delivered, where the log takes the record; a node repeats what it waits for.
 abbrev pub goes_on : Event → Bool
@@ -74,3 +75,21 @@ pub record Leads {M : Machine} (kind : Event → Bool) (w : World M) (Q : World 
 -- No reachable world is stuck: where a view stands, deliveries and ticks alone serve each request.
 abbrev pub Unstuck : {M : Machine} → World M → Type 0
 Unstuck w = (v : View) → Standing w v → has_room w v → Leads goes_on w (λ u. Served u v)
+
+-- A node goes on in its view: nothing that it had is taken back.
+pub record Advances {M : Machine} (x y : NodeState M) : Type 0 where
+  pub view : y.join.view ≡ x.join.view
+  pub records : done_of x ≤ done_of y
+  -- What it pulled stays until it is ready.
+  pub pulled : (got : ℕ) → joining.pulled_bytes x.join ≡ Some got → (joining.is_ready y.join ≡ true) ⊎ ((more : List ℕ) × (joining.pulled_bytes y.join ≡ Some (got + length more)) × (y.bytes ≡ x.bytes ++ more))
+  pub ready : joining.is_ready x.join ≡ true → joining.is_ready y.join ≡ true
+  pub marks : (m : ℕ) → joining.is_marked x.join m ≡ true → joining.is_marked y.join m ≡ true
+  pub opened : joining.is_open x.join ≡ true → joining.is_open y.join ≡ true
+  -- A request leaves the queue only where it is finished.
+  pub finished : x.core.passed ≤ y.core.passed
+  pub queued : y.core.passed + length y.core.queue ≡ x.core.passed + length x.core.queue
+
+-- Progress isn't taken back: where a message is delivered or a node ticks, each node goes on, or it stops since a later
+-- view has claimed the log.
+abbrev pub Monotone : {M : Machine} → World M → Type 0
+Monotone {M} w = (e : Event) (n : ℕ) (x : NodeState M) → goes_on e ≡ true → w.nodes n ≡ Some x → ((y : NodeState M) × ((happens w e).nodes n ≡ Some y) × Advances x y) ⊎ (((happens w e).nodes n ≡ None) × (number_of x < w.log.held))
