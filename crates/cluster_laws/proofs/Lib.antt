@@ -23,3 +23,16 @@ pub mod Fitting
 pub mod Theorem
 pub mod Points
 pub mod Orders
+pub mod Guards
+pub mod Shapes
+pub mod Sound
+pub mod Leading
+pub mod Propagation
+pub mod Serving
+pub mod Queues
+pub mod Cores
+pub mod Standing
+pub mod Joined
+pub mod Opens
+pub mod Witness
+pub mod Advancing

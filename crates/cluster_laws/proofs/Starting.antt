@@ -1,5 +1,5 @@
 -- Nodes start, and views are declared.
-use Rattle.std.proofs.Common.{◌≡◌, ◌≢◌, ⊎_elim, ℕ, ◌+◌, ◌<◌, ◌≤◌, Bool, true, false, List, [], ◌∷◌, ◌++◌, length, Option, Some, None, is_none, nat_eq, nat_lt, nat_le, cond, slice_get, refl, sym, ap, ◌∙◌, subst, arith}
+use Rattle.std.proofs.Common.{◌≡◌, ◌≢◌, ⊎_elim, ℕ, ◌+◌, ◌<◌, ◌≤◌, Bool, true, false, ◌&&◌, List, [], ◌∷◌, ◌++◌, length, Option, Some, None, is_none, nat_eq, nat_lt, nat_le, cond, slice_get, refl, sym, ap, ◌∙◌, subst, arith}
 use Rattle.gum_messages.specs.declared.member.Member.{Member}
 use Rattle.gum_messages.specs.declared.view.View.{View}
 use Rattle.gum_messages.specs.Members.{inc_of, locker_of}
@@ -11,7 +11,7 @@ use Rattle.view_reconcile.specs.Joining as joining
 use Rattle.view_reconcile.specs.Chains.{IsChain, fault_of, view_in}
 use Rattle.cluster_rules.specs.Machines.{Machine}
 use Rattle.cluster_rules.specs.Nodes.{NodeState, fresh}
-use Rattle.cluster_rules.specs.Worlds.{World, may_declare, put, was_started}
+use Rattle.cluster_rules.specs.Worlds.{World, is_view, may_declare, put, was_started}
 use Rattle.cluster_laws.proofs.Inv.{Invariant, NodeOk, Owner, OwnerOk}
 use Rattle.cluster_laws.proofs.Stable.{AskedOnly, Ext, all_reached, asked_, entered_, grown_refl, longer_refl, past, pooled, reached, was_ready}
 use Rattle.cluster_laws.proofs.Moves.{at_self, put_cases}
@@ -216,7 +216,7 @@ module _ {M : Machine} where
   pub declare_keeps : (w : World M) (v : View) → Invariant w → may_declare w v ≡ true → Invariant (declared_world w v)
   declare_keeps w v j g =
       let w' : World M = declared_world w v in
-      let a = and_true (list_all (was_started w.starts) v.members) (is_none (fault_of w.chain v)) g in
+      let a = and_true (list_all (was_started w.starts) v.members) (is_none (fault_of w.chain v)) (and_true (is_view v) (list_all (was_started w.starts) v.members && is_none (fault_of w.chain v)) g).1 in
       let new : IsChain w'.chain = stays_chain w.chain v j.chain.chain (is_none_says (fault_of w.chain v) a.1) in
       let old : (k : ℕ) (u : View) → view_in w.chain k ≡ Some u → view_in w'.chain k ≡ Some u = λ k u e. place_old w.chain v k u e in
       let e : Ext w w' = record { log = longer_refl w.log; chain = old; starts = λ m. omega arith; requests = λ m i q u e. e; nodes = λ m y at le. (y, at, grown_refl y) } in

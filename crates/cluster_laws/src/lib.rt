@@ -3,6 +3,10 @@
 //! definitions are those of `cluster_rules`, the invariants and their proof stand in `proofs/`.
 #![tactic(auto)]
 
+mod progress;
+
+pub use progress::{monotone, unstuck};
+
 ghost use Rattle.std.specs.Prelude.{◌≡◌, ◌++◌, ℕ, List};
 ghost use Rattle.cluster_rules.specs.Machines.{Machine, IsMachine};
 ghost use Rattle.cluster_rules.specs.Promises.{Kept, Safe, Steady};

@@ -5,3 +5,4 @@ pub mod Joins
 pub mod Receiving
 pub mod Worlds
 pub mod Promises
+pub mod Progress

@@ -1,6 +1,6 @@
 -- The world of the protocol: nodes, messages and the log, without connections. What the disk answers is part of an
 -- event, and so is which message comes next, if any: losses, repeats and reorderings are choices of the events.
-use Rattle.std.specs.Prelude.{ℕ, ◌+◌, ◌^◌, Bool, not, ◌&&◌, List, [], ◌∷◌, ◌++◌, length, Option, Some, None, is_none, nat_eq, nat_lt, nat_le, if◌then◌else◌}
+use Rattle.std.specs.Prelude.{ℕ, ◌+◌, ◌^◌, Bool, true, not, ◌&&◌, List, [], ◌∷◌, ◌++◌, length, Option, Some, None, is_none, nat_eq, nat_lt, nat_le, if◌then◌else◌}
 use Rattle.std.specs.List.{list_all}
 use Rattle.gum_messages.specs.declared.member.Member.{Member}
 use Rattle.gum_messages.specs.declared.view.View.{View}
@@ -200,9 +200,17 @@ reads n x w = record w { points = w.points ++ record { node = n; inc = x.join.in
 abbrev pub was_started : (ℕ → ℕ) → Member → Bool
 was_started starts m = nat_lt 0 m.inc && nat_le m.inc (starts m.node)
 
--- A view may be declared whose incarnations were started, and which continues the chain.
+-- Nodes of 1 to 16 in ascending order above a floor, each with an incarnation.
+abbrev pub ascends : ℕ → List Member → Bool
+ascends floor [] = true
+ascends floor (m ∷ ms) = nat_lt floor m.node && (nat_le m.node 16 && (nat_le 1 m.inc && ascends m.node ms))
+
+abbrev pub is_view : View → Bool
+is_view v = nat_le 1 v.number && ascends 0 v.members
+
+-- A view may be declared whose members are in their order and were started, and which continues the chain.
 abbrev pub may_declare : {M : Machine} → World M → View → Bool
-may_declare w v = list_all (was_started w.starts) v.members && is_none (fault_of w.chain v)
+may_declare w v = is_view v && (list_all (was_started w.starts) v.members && is_none (fault_of w.chain v))
 
 abbrev pub at_node : {M : Machine} → World M → ℕ → (NodeState M → World M) → World M
 at_node w n f = elim (w.nodes n) [ None ↦ w | Some x ↦ f x ]
