@@ -1,11 +1,11 @@
 -- What a log value keeps, and the log for which it stands.
-use Rattle.std.specs.Prelude.{◌≡◌, ℕ, ◌+◌, ◌-◌, ◌<◌, ◌≤◌, ◌⊎◌, Bool, IsTrue, not, ◌==◌, List, [], length, slice_index, Result, Ok, Err, ⊤}
+use Rattle.std.specs.Prelude.{◌≡◌, ℕ, ◌+◌, ◌-◌, ◌<◌, ◌≤◌, ◌⊎◌, Bool, true, IsTrue, not, ◌==◌, List, [], length, slice_index, Result, Ok, Err, ⊤}
 use Rattle.causes.specs.Counts.{Rose}
 use Rattle.disk_core.specs.declared.fault.DiskFault.{DiskFault}
 use Rattle.disk_core.specs.declared.fault.DiskFault.TheVariants as disk_faults
 use Rattle.disk_core.specs.Views.{DiskView}
 use Rattle.quorum_log.specs.declared.found.Found.{Found}
-use Rattle.quorum_log.specs.Layout.{half_size, half_at, most_record, most_records}
+use Rattle.quorum_log.specs.Layout.{half_size, half_at, most_record, most_records, next_generation}
 use Rattle.quorum_log.specs.Image.{Holds, tail_of, other_of}
 
 pub record LogValue : Type 0 where
@@ -36,6 +36,22 @@ pub record IsSoundLog (log : LogValue) (buffer : ℕ) : Type 0 where
 -- A record of that length and the commit byte behind it lie within the half.
 abbrev pub Fits : LogValue → ℕ → Type 0
 Fits log count = log.tail + 5 + count < half_at log.cap log.half + half_size log.cap
+
+-- The log value behind a record of that length.
+abbrev pub appended : LogValue → ℕ → LogValue
+appended log count = record log { records = log.records + 1; tail = log.tail + 5 + count }
+
+-- The log value behind a checkpoint whose state and last record have these lengths.
+abbrev pub begun : LogValue → ℕ → ℕ → LogValue
+begun log state last = record log {
+  half = 1 - log.half;
+  version = 2;
+  generation = next_generation log.generation;
+  base = log.base + log.records;
+  records = 0;
+  tail = half_at log.cap (1 - log.half) + 25 + state + last;
+  other_valid = true;
+}
 
 -- Nothing is pending, the disk tells its content and holds x, and the log value is that of x.
 pub record StandsFor (log : LogValue) (v : DiskView) (x : Found) : Type 0 where

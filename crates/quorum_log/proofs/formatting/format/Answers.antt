@@ -1,5 +1,5 @@
 use Rattle.std.proofs.Common.{◌≡◌, ℕ, ◌+◌, ◌<◌, ◌≤◌, length, arith, sym, ◌∙◌}
-use Rattle.quorum_log.proofs.Formatted.{formatted, format_answer}
+use Rattle.quorum_log.proofs.Formatted.{formatted, format_answer, format_same}
 use Rattle.quorum_log.proofs.formatting.format.Goals as goal
 
 pub returns-clause-any_moment : goal.returns-clause-any_moment
@@ -19,3 +19,6 @@ returns-clause-claimed g c = (format_answer c.args.claim c.args.cap c.args.first
 
 pub returns-clause-answer : goal.returns-clause-answer
 returns-clause-answer g c = (format_answer c.args.claim c.args.cap c.args.first.now _ _ _ c.make_log.ensures).0
+
+pub returns-clause-same : goal.returns-clause-same
+returns-clause-same g c = format_same c.args.claim c.args.cap c.args.first.now _ _ _ c.make_log.ensures

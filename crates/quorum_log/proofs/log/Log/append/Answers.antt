@@ -3,6 +3,7 @@ use Rattle.disk_core.specs.Calls.{Made, write, sync}
 use Rattle.quorum_log.specs.Faults.{disk_answer}
 use Rattle.quorum_log.specs.Changes.{record_text}
 use Rattle.quorum_log.proofs.Moments.{made_answer}
+use Rattle.quorum_log.proofs.CallLaws.{append_held, made_same}
 use Rattle.quorum_log.proofs.Appended.{append_valued}
 use Rattle.quorum_log.proofs.log.Log.append.Goals as goal
 
@@ -34,3 +35,15 @@ returns-clause-answer g c =
     let made : Made (write log.claim (log.tail + 1) (record_text c.args.bytes.now) ∷ sync log.claim ∷ write log.claim log.tail (1 ∷ []) ∷ sync log.claim ∷ [])
     (g.D.Disk.view c.args.disk.now) (disk_answer (Ok log)) (g.D.Disk.view c.write_then_commit.new.disk) = search rules in
     made_answer log.claim _ _ _ _ _ (search rules) made
+
+pub returns-in_err-write_then_commit-clause-held : goal.returns-in_err-write_then_commit-clause-held
+returns-in_err-write_then_commit-clause-held g c = append_held _ _ _ _ _ _ c.in_err-write_then_commit.ensures
+
+pub returns-in_err-write_then_commit-clause-same : goal.returns-in_err-write_then_commit-clause-same
+returns-in_err-write_then_commit-clause-same g c = made_same _ _ _ _ c.in_err-write_then_commit.ensures
+
+pub returns-clause-held : goal.returns-clause-held
+returns-clause-held g c = append_held _ _ _ _ _ _ c.in_ok-write_then_commit.ensures
+
+pub returns-clause-same : goal.returns-clause-same
+returns-clause-same g c = made_same _ _ _ _ c.in_ok-write_then_commit.ensures
