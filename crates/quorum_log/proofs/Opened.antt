@@ -13,7 +13,8 @@ use Rattle.quorum_log.specs.declared.fault.OpenFault.TheVariants.{Failed, Fenced
 use Rattle.quorum_log.specs.declared.found.Found.{Found}
 use Rattle.quorum_log.specs.Layout.{half_at, image_size, number_at}
 use Rattle.quorum_log.specs.Image.{Holds, other_of}
-use Rattle.quorum_log.specs.Checks.{first_bad, header_checks, is_valid, current_half, HeaderFault, HalvesFault, IsBadImage, IsFoundCurrent}
+use Rattle.quorum_log.specs.Checks.{first_bad, header_checks, is_valid, current_half, HeaderFault, HalvesFault, IsBadImage}
+use Rattle.quorum_log.specs.Readings.{IsFoundCurrent}
 use Rattle.quorum_log.specs.Faults.{open_fault}
 use Rattle.quorum_log.specs.Logs.{StandsFor, log_of}
 use Rattle.quorum_log.specs.Opening.{OnlyRead, IsRead, WasRead, IsInOpen, ReadFails, ReadsImage, AnswersImage, OpenFails}

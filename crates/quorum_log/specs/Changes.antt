@@ -10,8 +10,8 @@ use Rattle.quorum_log.specs.Layout.{magic, half_at, second_version, next_generat
 use Rattle.quorum_log.specs.Image.{Holds, other_of, tail_of}
 
 -- A record with its length in front and the next commit byte, which is 0, behind it.
-abbrev pub record_text : List ℕ → List ℕ
-record_text bytes = num Little 4 (length bytes) ++ (bytes ++ 0 ∷ [])
+abbrev pub framed_record : List ℕ → List ℕ
+framed_record bytes = num Little 4 (length bytes) ++ (bytes ++ 0 ∷ [])
 
 -- A half of version 2 without records, from behind its validity byte on.
 abbrev pub half_text : ℕ → ℕ → List ℕ → List ℕ → List ℕ

@@ -23,8 +23,7 @@ const FRONT: usize = 88;
 ///
 /// Meanwhile a crash leaves no log, the new one, or what it could have left before.
 pub fn format<D: Disk>(disk: &mut D, claim: u32, cap: u32, first: &[u8]) -> Result<(), DiskFault>
-    requires cap_least { 4096 ≤ cap }
-    requires cap_most { cap ≤ 16_777_216 }
+    requires cap { layout.IsCap cap }
     requires first { length first.now ≤ cap }
     requires disk_size { layout.image_size cap ≤ (D.view disk.old).size }
     ensures any_moment { IsTrue (D.view disk.old).tells → Passes (EachImage (IsInFormat (D.view disk.old).current cap first.now)) (D.view disk.old) (D.view disk.new) }

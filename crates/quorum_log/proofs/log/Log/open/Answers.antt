@@ -65,7 +65,7 @@ returns-clause-found g c = λ told.
 pub returns-clause-limits : goal.returns-clause-limits
 returns-clause-limits g c =
     let holds = found_in (g.D.Disk.view c.take_over.new.disk) c.in_ok-image.image.items c.in_ok-image.cap c.in_ok-found.found c.in_ok-image.ensures.image (rw c.deref.ensures.value at c.in_ok-found.ensures) in
-    record { cap_least = holds.cap_least; cap_most = holds.cap_most; state_most = holds.state_most; last_most = holds.last_most; count = holds.count }
+    record { cap_range = holds.cap_range; state_most = holds.state_most; last_most = holds.last_most; count = holds.count }
 
 pub returns-clause-claimed : goal.returns-clause-claimed
 returns-clause-claimed g c =
