@@ -25,7 +25,7 @@ pub records_long : (version place : ℕ) (stored : List FoundRecord) (entries : 
 records_long version place [] [] h = refl
 records_long version place [] (e ∷ es) h = absurd h
 records_long version place (s ∷ ss) [] h = absurd h
-records_long version place (s ∷ ss) (e ∷ es) h = ap (λ n. n + 1) (records_long version (place + 1) ss es h.1)
+records_long version place (s ∷ ss) (e ∷ es) h = let behind = records_long version (place + 1) ss es h.1 in omega (arith, behind)
 
 encoded_good : (first : Bool) (bytes : List ℕ) (entry : Entry) → IsEncodedFirst first bytes entry → IsRecord entry
 encoded_good true bytes entry is = is.0
