@@ -53,5 +53,5 @@ empty_formatted cap state w is made =
     let there : P empty_registry = subst P is made in
     settled_images (λ image. Holds image (empty_log cap empty_registry)) w.current there.settled there.holds
 
-pub empty_passes : (cap : ℕ) (state : List ℕ) (v w : DiskView) → state ≡ empty_registry → Passes (IsInFormat v.current cap state) v w → Passes (IsInFormat v.current cap empty_registry) v w
-empty_passes cap state v w is passes = let P : List ℕ → Type 0 = λ xs. Passes (IsInFormat v.current cap xs) v w in subst P is passes
+pub empty_passes : (cap : ℕ) (state : List ℕ) (v w : DiskView) → state ≡ empty_registry → Passes (EachImage (IsInFormat v.current cap state)) v w → Passes (EachImage (IsInFormat v.current cap empty_registry)) v w
+empty_passes cap state v w is passes = let P : List ℕ → Type 0 = λ xs. Passes (EachImage (IsInFormat v.current cap xs)) v w in subst P is passes

@@ -16,16 +16,16 @@ use Rattle.clus_cli.specs.Showlog.{Refuses, contents_status, open_status}
 pub opening_refused : (v w : DiskView) (fault : OpenFault) → OpenFails 1 v w fault → OpenCalls 1 v (Err fault) w → Refuses v (open_status fault) w
 opening_refused v w faults.Failed fails calls = fails
 opening_refused v w (faults.Fenced held) fails calls = fails
-opening_refused v w faults.Blank fails calls = (fails.0, λ told. inl (fails.1 told, refl))
+opening_refused v w faults.Blank fails calls = (fails.held_before, λ told. inl (fails.blank told, refl))
 opening_refused v w (faults.BadImage place) fails calls = (fails.0, λ told. inr (inl (fails.1 told)))
 opening_refused v w faults.Memory fails calls = memory_behind_claim 1 v w calls
 
 -- The image from before holds the log that was found.
-pub held_before : (v w : DiskView) (log : LogValue) (x : Found) → OpenCalls 1 v (Ok tt) w → (IsTrue v.tells → StandsFor log w x) → IsTrue v.tells → Holds v.current.seen x
-held_before v w log x calls stands told = subst (λ (image : List ℕ). Holds image x) (opening_keeps 1 v w (Ok tt) calls told) (stands told).holds
+pub held_before : (v w : DiskView) (log : LogValue) (x : Found) → OpenCalls 1 v (Ok x) w → (IsTrue v.tells → StandsFor log w x) → IsTrue v.tells → Holds v.current.seen x
+held_before v w log x calls stands told = subst (λ (image : List ℕ). Holds image x) (opening_keeps 1 v w (Ok x) calls told) (stands told).holds
 
-pub contents_refused : (v w : DiskView) (log : LogValue) (x : Found) (fault : ContentsFault) → OpenCalls 1 v (Ok tt) w → (IsTrue v.tells → StandsFor log w x)
+pub contents_refused : (v w : DiskView) (log : LogValue) (x : Found) (fault : ContentsFault) → OpenCalls 1 v (Ok x) w → (IsTrue v.tells → StandsFor log w x)
     → FailsOn x fault → Refuses v (contents_status fault) w
 contents_refused v w log x (contents_faults.Bad place) calls stands fails =
-    (opened_behind_claim 1 v w calls, λ told. inr (inr (x, held_before v w log x calls stands told, fails)))
-contents_refused v w log x contents_faults.Memory calls stands fails = opened_behind_claim 1 v w calls
+    (opened_behind_claim 1 v w x calls, λ told. inr (inr (x, held_before v w log x calls stands told, fails)))
+contents_refused v w log x contents_faults.Memory calls stands fails = opened_behind_claim 1 v w x calls

@@ -57,4 +57,4 @@ pub record FormatRuns (cap : ℕ) (v : DiskView) (status : Status) (w : DiskView
   pub ends : FormatEnds v status w
   -- after Done each image that a crash may leave holds the empty log
   pub formatted : IsTrue v.tells → status ≡ statuses.Done → EachImage (λ image. Holds image (empty_log cap empty_registry)) w.current
-  pub any_moment : IsTrue v.tells → Passes (IsInFormat v.current cap empty_registry) v w
+  pub any_moment : IsTrue v.tells → Passes (EachImage (IsInFormat v.current cap empty_registry)) v w

@@ -13,6 +13,7 @@ use Rattle.quorum_log.specs.declared.fault.OpenFault.TheVariants as faults
 use Rattle.quorum_log.specs.Checks.{IsBadImage}
 use Rattle.quorum_log.specs.Image.{Holds}
 use Rattle.quorum_log.specs.Logs.{IsWithinLimits}
+use Rattle.quorum_log.specs.Opening.{WasRead}
 use Rattle.log_contents.specs.declared.contents.LogContents.{LogContents}
 use Rattle.log_contents.specs.declared.fault.ContentsFault.{ContentsFault}
 use Rattle.log_contents.specs.declared.fault.ContentsFault.TheVariants as contents_faults
@@ -96,6 +97,7 @@ contents_status contents_faults.Memory = statuses.NoMemory
 pub record IsFound (v : DiskView) (x : Found) (w : DiskView) : Type 0 where
   pub held_before : v.current.held ≤ 1
   pub held : w.current.held ≡ 1
+  pub read : WasRead v x
   pub good : IsTrue v.tells → IsGoodLog v.current.seen x
   pub limits : IsWithinLimits x
 
@@ -114,6 +116,8 @@ pub record IsShown (v : DiskView) (before : Option (List ℕ)) (status : Status)
   pub held_before : v.current.held ≤ 1
   pub held : w.current.held ≡ 1
   pub log : Found
+  -- whatever the disk tells: the log is the one in the bytes that were read
+  pub read : WasRead v log
   pub good : IsTrue v.tells → IsGoodLog v.current.seen log
   pub prints : Prints before (lines_of log) status now
 

@@ -99,6 +99,7 @@ pub record Planned (c : Call) (v : DiskView) (p : Plan) (result : Result ⊤ Dis
   pub fails : FailsAsPlanned c v p result w
   pub next : w.plan ≡ Some (next_plan c (is_fenced c v) p)
   pub noted : IsTrue v.tells → IsTrue (is_noted c (is_fenced c v) p) → w.past ≡ moments v
+  pub unnoted : IsTrue v.tells → IsFalse (is_noted c (is_fenced c v) p) → w.past ≡ v.past
 
 -- It is the same disk: its size and what it tells never change, and its faults never become fewer.
 pub record SameDisk (v w : DiskView) : Type 0 where

@@ -1,7 +1,7 @@
 -- The meaning of a disk, as contracts see it.
 use Rattle.std.specs.Prelude.{◌≡◌, ℕ, Bool, List, [], ◌∷◌, ◌++◌, Option}
 use Rattle.std.specs.List.{AllByRecursion}
-use Rattle.disk_core.specs.Images.{Moment, EachImage}
+use Rattle.disk_core.specs.Images.{Moment}
 
 -- What a crash disk tells of the calls that it will let fail.
 pub record Plan : Type 0 where
@@ -30,9 +30,9 @@ pub record DiskView : Type 0 where
 abbrev pub moments : DiskView → List Moment
 moments v = v.past ++ v.current ∷ []
 
--- From the first disk to the second one, both included, each image of each moment has P.
-pub record Passes (P : List ℕ → Type 0) (v w : DiskView) : Type 0 where
+-- From the first disk to the second one, both included, each moment has P.
+pub record Passes (P : Moment → Type 0) (v w : DiskView) : Type 0 where
   pub further : List Moment
   pub goes_on : moments w ≡ moments v ++ further
-  pub first : EachImage P v.current
-  pub each : AllByRecursion (EachImage P) further
+  pub first : P v.current
+  pub each : AllByRecursion P further

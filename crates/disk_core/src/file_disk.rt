@@ -15,15 +15,16 @@ const SIZE: u64 = 1_099_511_627_776;
 
 /// A disk over a file, which is opened at the first call and made at the first write.
 ///
-/// Each write is one write of the system, and each sync one `fdatasync`; the first one behind the
-/// making of the file syncs its folder too. The fencing token is kept in this value alone, so another
-/// process isn't fenced.
+/// Each write is one write of the system, and each sync one `fdatasync`. The first sync of the file syncs
+/// its folder too, also where an earlier process made the file: that one may have ended before its own.
+/// A file that may not be written is opened to be read, and the first write fails. The fencing token is
+/// kept in this value alone, so another process isn't fenced.
 #[derive(Drop)]
 pub struct FileDisk<'a, R: Files> {
     runtime: &'a R,
     path: String,
     file: Option<R::File>,
-    is_new: bool,
+    folder_synced: bool,
     held: u32,
     faults: u64,
 }
@@ -51,7 +52,7 @@ where
             runtime,
             path,
             file: None,
-            is_new: false,
+            folder_synced: false,
             held: 0,
             faults: 0,
         }
@@ -77,7 +78,7 @@ where
         if self.file.is_some() {
             return Ok(());
         }
-        match open_file(self.runtime, self.path.as_str(), false) {
+        match open_present(self.runtime, self.path.as_str()) {
             Ok(file) => {
                 self.file = Some(file);
                 Ok(())
@@ -95,26 +96,25 @@ where
         if self.file.is_some() {
             return Ok(());
         }
-        match open_file(self.runtime, self.path.as_str(), true) {
+        match open_file(self.runtime, self.path.as_str(), Access::Make) {
             Ok(file) => {
                 self.file = Some(file);
-                self.is_new = true;
                 Ok(())
             }
             Err(error) => self.answer(Err(error)),
         }
     }
 
-    /// Syncs the folder of a file that was made since the last sync.
+    /// Syncs the folder of the file, once.
     fn sync_folder(&mut self) -> Result<(), DiskFault>
         ensures { FailsAs self.old result self.new }
     {
-        if !self.is_new {
+        if self.folder_synced || self.file.is_none() {
             return Ok(());
         }
         match sync_parent(self.runtime, self.path.as_str()) {
             Ok(()) => {
-                self.is_new = false;
+                self.folder_synced = true;
                 Ok(())
             }
             Err(error) => self.answer(Err(error)),
@@ -185,9 +185,31 @@ where
     }
 }
 
-fn open_file<R: Files>(runtime: &R, path: &str, is_made: bool) -> io::Result<R::File> {
+/// What a file is opened for.
+#[derive(Clone, Copy, PartialEq, Eq)]
+enum Access {
+    Read,
+    Write,
+    Make,
+}
+
+/// Opens a file that is there, to read alone where it may not be written.
+fn open_present<R: Files>(runtime: &R, path: &str) -> io::Result<R::File> {
+    match open_file(runtime, path, Access::Write) {
+        Err(error) if is_refused(error.kind()) => open_file(runtime, path, Access::Read),
+        opened => opened,
+    }
+}
+
+/// Whether it tells that a file may not be written.
+fn is_refused(kind: ErrorKind) -> bool {
+    kind == ErrorKind::PermissionDenied || kind == ErrorKind::ReadOnlyFilesystem
+}
+
+fn open_file<R: Files>(runtime: &R, path: &str, access: Access) -> io::Result<R::File> {
     let mut options = OpenOptions::new();
-    options.read(true).write(true).create(is_made);
+    options.read(true).write(access != Access::Read);
+    options.create(access == Access::Make);
     options.open(runtime, path)
 }
 

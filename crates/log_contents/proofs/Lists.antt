@@ -1,9 +1,10 @@
 -- Records one after the other, and the first that isn't one.
-use Rattle.std.proofs.Common.{◌≡◌, ℕ, ◌+◌, ◌<◌, List, [], ◌∷◌, ◌++◌, length, take, drop, get_or, Err, refl, sym, ap, ◌∙◌, subst, arith}
+use Rattle.std.proofs.Common.{◌≡◌, ℕ, ◌+◌, ◌<◌, ◌==◌, Bool, true, false, List, [], ◌∷◌, ◌++◌, length, take, drop, get_or, Err, refl, sym, ap, ◌∙◌, subst, arith}
 use Rattle.std.proofs.lemmas.List.{take-append-drop, length-take-le, take_more, drop_more}
 use Rattle.quorum_log.specs.declared.found.FoundRecord.{FoundRecord}
-use Rattle.update_records.specs.Entry.{Entry}
-use Rattle.log_contents.specs.Contents.{IsRecordAt, AreRecords}
+use Rattle.std.specs.List.{AllByRecursion}
+use Rattle.update_records.specs.Entry.{Entry, IsRecord}
+use Rattle.log_contents.specs.Contents.{IsEncodedFirst, IsRecordAt, AreRecords}
 use Rattle.log_contents.specs.Faults.{HasNone, IsPart, ArePart}
 use Rattle.log_contents.specs.declared.fault.ContentsFault.{ContentsFault}
 use Rattle.log_contents.specs.declared.fault.ContentsFault.TheVariants.{Bad, Memory}
@@ -18,6 +19,27 @@ one_more version place number (s ∷ ss) [] next entry h many is = absurd h
 one_more version place number (s ∷ ss) (e ∷ es) next entry h many is =
     let there : place + number ≡ place + 1 + length ss = omega (arith, many) in
     (h.0, one_more version (place + 1) (length ss) ss es next entry h.1 refl (subst (λ p. IsRecordAt version p next.bytes entry) there is))
+
+-- as many as the log has
+pub records_long : (version place : ℕ) (stored : List FoundRecord) (entries : List Entry) → AreRecords version place stored entries → length stored ≡ length entries
+records_long version place [] [] h = refl
+records_long version place [] (e ∷ es) h = absurd h
+records_long version place (s ∷ ss) [] h = absurd h
+records_long version place (s ∷ ss) (e ∷ es) h = let behind = records_long version (place + 1) ss es h.1 in omega (arith, behind)
+
+encoded_good : (first : Bool) (bytes : List ℕ) (entry : Entry) → IsEncodedFirst first bytes entry → IsRecord entry
+encoded_good true bytes entry is = is.0
+encoded_good false bytes entry is = is.0
+
+pub record_good : (version place : ℕ) (bytes : List ℕ) (entry : Entry) → IsRecordAt version place bytes entry → IsRecord entry
+record_good version place bytes entry is = encoded_good (version == 1) bytes entry is.encoded
+
+-- each of them is a record
+pub records_good : (version place : ℕ) (stored : List FoundRecord) (entries : List Entry) → AreRecords version place stored entries → AllByRecursion IsRecord entries
+records_good version place [] [] h = tt
+records_good version place [] (e ∷ es) h = absurd h
+records_good version place (s ∷ ss) [] h = absurd h
+records_good version place (s ∷ ss) (e ∷ es) h = (record_good version place s.bytes e h.0, records_good version (place + 1) ss es h.1)
 
 -- where one of the records isn't that of its place, they are no records
 pub none_behind : (version place : ℕ) (before : List FoundRecord) (bad : FoundRecord) (behind : List FoundRecord) (entries : List Entry)

@@ -5,13 +5,9 @@ ghost use Rattle.log_rows.specs.Keeping.{IsKept};
 
 use crate::fault::PlayFault;
 use disk_core::{CrashDisk, Disk, MemDisk};
-use quorum_log::{Found, Log, format, image_size};
+use quorum_log::{Found, Log, MOST_RECORD, MOST_RECORDS, format, image_size};
 use std::alloc::Global;
 use std::marker::Model;
-
-const MOST_RECORD: usize = 57_344;
-
-const MOST_RECORDS: u64 = 9_223_372_036_854_775_807;
 
 /// A disk with the log that is open on it, its cap, and how many records it was given in all.
 #[derive(Drop)]

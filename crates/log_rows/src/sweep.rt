@@ -11,6 +11,9 @@ use std::alloc::Global;
 /// No call makes so many calls of the disk.
 const MANY: u32 = 64;
 
+/// No call of a row that is tried leaves so many bytes pending.
+const MOST_PENDING: usize = 65_536;
+
 /// What a crash leaves of pending bytes.
 #[derive(Clone, Copy)]
 enum Fill {
@@ -163,8 +166,8 @@ impl Sweep {
 fn crash(logs: &mut LogDisk, moment: u32, fill: Fill) {
     match fill {
         Fill::Kept => logs.crash(moment, &[]),
-        Fill::Zeros => logs.crash(moment, &[0; 4096]),
-        Fill::Ones => logs.crash(moment, &[255; 4096]),
+        Fill::Zeros => logs.crash(moment, &[0; MOST_PENDING]),
+        Fill::Ones => logs.crash(moment, &[255; MOST_PENDING]),
     }
 }
 

@@ -7,8 +7,8 @@ use Rattle.disk_core.specs.Images.{Has, SameOutside}
 use Rattle.quorum_log.specs.declared.found.Found.{Found}
 use Rattle.quorum_log.specs.declared.found.FoundRecord.{FoundRecord}
 use Rattle.quorum_log.specs.Layout.{half_size, half_at, most_record, most_records, next_generation, number_at}
-use Rattle.quorum_log.specs.Image.{Holds, IsRecord, IsCurrent, Listed, commit_behind, start_of, end_of, other_of, list_at, tail_of}
-use Rattle.quorum_log.specs.Changes.{record_text, with_record, HoldsEither}
+use Rattle.quorum_log.specs.Image.{Holds, IsFramed, IsCurrent, Listed, commit_behind, start_of, end_of, other_of, list_at, tail_of}
+use Rattle.quorum_log.specs.Changes.{framed_record, with_record, HoldsEither}
 use Rattle.quorum_log.proofs.Places.{SameWithin, same_number, has_number, has_window, has_left, has_right, has_one, has_kept, length-num, within_from, within_part, within_trans}
 use Rattle.quorum_log.proofs.Kept.{holds_by, kept_list, listed_push, behind-push, behind-le, tail_within}
 
@@ -25,7 +25,7 @@ kept_current old new other generation same is = elim is [
   | inr next ↦ inr (next ∙ ap next_generation (sym (same_number old new other (other + 9) (other + 1) 8 same (omega arith) (omega arith))))
 ]
 
-pub length-record_text : (bytes : List ℕ) → length (record_text bytes) ≡ length bytes + 5
+pub length-record_text : (bytes : List ℕ) → length (framed_record bytes) ≡ length bytes + 5
 length-record_text bytes = omega (arith, length-append (num Little 4 (length bytes)) (bytes ++ 0 ∷ []), length-append bytes (0 ∷ []), length-num 4 (length bytes))
 
 -- what the calls leave alone
@@ -48,7 +48,7 @@ before x old new is beside closed =
     closed is.count
 
 after : (x : Found) (bytes old new : List ℕ) → Holds old x → Beside x old new → 1 ≤ length bytes → length bytes ≤ most_record → tail_of x + 5 + length bytes < end_of x → x.base + length x.records < most_records
-    → get_or new (tail_of x) 0 ≢ 0 → Has new (tail_of x + 1) (record_text bytes) → Holds new (with_record x bytes)
+    → get_or new (tail_of x) 0 ≢ 0 → Has new (tail_of x + 1) (framed_record bytes) → Holds new (with_record x bytes)
 after x bytes old new is beside some most fits few committed has =
     let low = behind-le (list_at x) x.records in
     let tail = tail_of x in
@@ -57,7 +57,7 @@ after x bytes old new is beside some most fits few committed has =
     let four : tail + 1 + length (num Little 4 (length bytes)) ≡ tail + 5 = omega (arith, length-num 4 (length bytes)) in
     let body : Has new (tail + 5) (bytes ++ 0 ∷ []) = rw four at rest in
     let r : FoundRecord = record { at = tail + 5; bytes = bytes } in
-    let one : IsRecord new (end_of x) tail r = record {
+    let one : IsFramed new (end_of x) tail r = record {
       commit = committed;
       place = refl;
       size = has_number new (tail + 1) 4 (length bytes) (omega arith) number;
@@ -98,35 +98,35 @@ beside-trans x a b c p q = record {
 
 -- while the record is written
 pub torn : (x : Found) (bytes old : List ℕ) → Holds old x → tail_of x + 5 + length bytes < end_of x
-    → (c : List ℕ) → SameOutside (tail_of x + 1) (length (record_text bytes)) old c → Holds c x
+    → (c : List ℕ) → SameOutside (tail_of x + 1) (length (framed_record bytes)) old c → Holds c x
 torn x bytes old is fits c same =
     let long = length-record_text bytes in
-    before x old c is (beside_range x (tail_of x + 1) (length (record_text bytes)) old c is (omega arith) (omega arith) same)
+    before x old c is (beside_range x (tail_of x + 1) (length (framed_record bytes)) old c is (omega arith) (omega arith) same)
     (same.each (tail_of x) (inl (omega arith)) ∙ is.closed)
 
-text_kept : (x : Found) (bytes d c : List ℕ) → Has d (tail_of x + 1) (record_text bytes) → SameOutside (tail_of x) 1 d c → Has c (tail_of x + 1) (record_text bytes)
+text_kept : (x : Found) (bytes d c : List ℕ) → Has d (tail_of x + 1) (framed_record bytes) → SameOutside (tail_of x) 1 d c → Has c (tail_of x + 1) (framed_record bytes)
 text_kept x bytes d c has same =
-    has_kept d c (tail_of x + 1) (tail_of x + 1 + length (record_text bytes)) (tail_of x + 1) (record_text bytes) same.size
-    (within_from (tail_of x) 1 (tail_of x + 1) (tail_of x + 1 + length (record_text bytes)) d c same (inr (omega arith))) (omega arith) (omega arith) has
+    has_kept d c (tail_of x + 1) (tail_of x + 1 + length (framed_record bytes)) (tail_of x + 1) (framed_record bytes) same.size
+    (within_from (tail_of x) 1 (tail_of x + 1) (tail_of x + 1 + length (framed_record bytes)) d c same (inr (omega arith))) (omega arith) (omega arith) has
 
 pub both_beside : (x : Found) (bytes old d c : List ℕ) → Holds old x → tail_of x + 5 + length bytes < end_of x
-    → SameOutside (tail_of x + 1) (length (record_text bytes)) old d → SameOutside (tail_of x) 1 d c → Beside x old c
+    → SameOutside (tail_of x + 1) (length (framed_record bytes)) old d → SameOutside (tail_of x) 1 d c → Beside x old c
 both_beside x bytes old d c is fits body commit =
     let long = length-record_text bytes in
-    let first = beside_range x (tail_of x + 1) (length (record_text bytes)) old d is (omega arith) (omega arith) body in
+    let first = beside_range x (tail_of x + 1) (length (framed_record bytes)) old d is (omega arith) (omega arith) body in
     let held : Holds d x = torn x bytes old is fits d body in
     beside-trans x old d c first (beside_range x (tail_of x) 1 d c held (omega arith) (omega arith) commit)
 
 -- behind the commit
 pub done : (x : Found) (bytes old : List ℕ) → Holds old x → 1 ≤ length bytes → length bytes ≤ most_record → tail_of x + 5 + length bytes < end_of x → x.base + length x.records < most_records
-    → (d c : List ℕ) → SameOutside (tail_of x + 1) (length (record_text bytes)) old d → Has d (tail_of x + 1) (record_text bytes) → SameOutside (tail_of x) 1 d c
+    → (d c : List ℕ) → SameOutside (tail_of x + 1) (length (framed_record bytes)) old d → Has d (tail_of x + 1) (framed_record bytes) → SameOutside (tail_of x) 1 d c
     → get_or c (tail_of x) 0 ≢ 0 → Holds c (with_record x bytes)
 done x bytes old is some most fits few d c body has commit committed =
     after x bytes old c is (both_beside x bytes old d c is fits body commit) some most fits few committed (text_kept x bytes d c has commit)
 
 -- while it is committed
 pub committing : (x : Found) (bytes old : List ℕ) → Holds old x → 1 ≤ length bytes → length bytes ≤ most_record → tail_of x + 5 + length bytes < end_of x → x.base + length x.records < most_records
-    → (d c : List ℕ) → SameOutside (tail_of x + 1) (length (record_text bytes)) old d → Has d (tail_of x + 1) (record_text bytes) → SameOutside (tail_of x) 1 d c
+    → (d c : List ℕ) → SameOutside (tail_of x + 1) (length (framed_record bytes)) old d → Has d (tail_of x + 1) (framed_record bytes) → SameOutside (tail_of x) 1 d c
     → HoldsEither x (with_record x bytes) c
 committing x bytes old is some most fits few d c body has commit = elim (cases_eq (get_or c (tail_of x) 0) 0) [
   | inl closed ↦ inl (before x old c is (both_beside x bytes old d c is fits body commit) closed)

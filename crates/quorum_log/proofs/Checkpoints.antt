@@ -126,7 +126,7 @@ begins : (x : Found) (state last old new : List ℕ) → Holds old x → Aside x
     → Has new (other_of x + 1) (half_text (next_generation x.generation) (x.base + length x.records) state last) → get_or new (other_of x) 0 ≢ 0 → Holds new (with_checkpoint x state last)
 begins x state last old new is aside fits state_most last_most has valid =
     let next : next_generation x.generation < 256 ^ 8 = mod-lt (x.generation + 1) (omega arith) in
-    let text = written new (other_of x) (next_generation x.generation) (x.base + length x.records) state last next is.count (omega (arith, is.cap_most)) (omega arith) has in
+    let text = written new (other_of x) (next_generation x.generation) (x.base + length x.records) state last next is.count (omega (arith, is.cap_range.1)) (omega arith) has in
     let low = tail_low x old is in
     let back : half_at x.cap (1 - (1 - x.half)) ≡ start_of x = ap (λ h. half_at x.cap h) (other_back x.half is.half) in
     let generation : number_at new (start_of x + 1) 8 ≡ x.generation = same_number old new (start_of x) (end_of x) (start_of x + 1) 8 aside.half (omega arith) (omega arith) ∙ is.fields.generation_is in
@@ -135,8 +135,7 @@ begins x state last old new is aside fits state_most last_most has valid =
       magic_is = same_window old new 0 64 1 7 aside.header (omega arith) (omega arith) ∙ is.magic_is;
       header_version = rw (same_number old new 0 64 8 4 aside.header (omega arith) (omega arith)) is.header_version;
       cap_is = same_number old new 0 64 12 4 aside.header (omega arith) (omega arith) ∙ is.cap_is;
-      cap_least = is.cap_least;
-      cap_most = is.cap_most;
+      cap_range = is.cap_range;
       whole = omega (arith, is.whole, aside.size);
       half = other_which x.half is.half;
       fields = text.fields valid;

@@ -9,15 +9,16 @@ use Rattle.disk_core.specs.declared.fault.DiskFault.TheVariants.{Failed, Fenced}
 use Rattle.disk_core.specs.declared.span.Span.{Span}
 use Rattle.disk_core.specs.Images.{Moment, Has, SameOutside, IsFree, IsImage, EachImage}
 use Rattle.disk_core.specs.Views.{DiskView, Passes}
-use Rattle.disk_core.specs.Calls.{Call, write, sync, claim, Step, ReadStep, Made, Puts, Tears}
+use Rattle.disk_core.specs.Calls.{Call, write, sync, claim, Step, ReadStep, Made, SameDisk, Puts, Tears}
 use Rattle.quorum_log.specs.Layout.{half_at, image_size}
 use Rattle.quorum_log.specs.Image.{Holds}
 use Rattle.quorum_log.specs.Faults.{AnsweredBy}
 use Rattle.quorum_log.specs.Changes.{closing}
 use Rattle.quorum_log.specs.Formats.{empty_log, front_text, body_calls, renewing, ReadsByte, Renews, FormatCalls, IsReopened, IsInFormat, IsFormatted}
-use Rattle.quorum_log.specs.Opening.{OnlyRead, OpenFails}
+use Rattle.quorum_log.specs.Opening.{OnlyRead, OpenFails, IsInOpen}
 use Rattle.quorum_log.specs.Faults.{open_fault}
-use Rattle.quorum_log.proofs.Moments.{Put, Carries, pair, made_answer, passes_here, passes_step, passes_trans, passes_weaken, settled_images, step_told, rose_before, step_held, carries_first}
+use Rattle.quorum_log.proofs.Moments.{Put, Carries, pair, made_answer, passes_here, passes_step, passes_trans, images_weaken, passes_weaken, settled_images, step_told, rose_before}
+use Rattle.quorum_log.proofs.CallLaws.{made_held, made_same, same_disk-trans}
 use Rattle.quorum_log.proofs.Places.{has_one, has_kept, within_from}
 use Rattle.quorum_log.proofs.Checkpointed.{made_split}
 use Rattle.quorum_log.proofs.Opened.{Taken, taken_ok, taken_err, passes_read, only_read, seen_image}
@@ -83,23 +84,23 @@ behind_first (write n at bytes) cs behind = ((behind.0, tt), behind.1)
 behind_first (sync n) cs behind = (tt, behind)
 behind_first (claim n) cs behind = absurd behind
 
-closed_made : (cs : List Call) (v w : DiskView) (result : Result ⊤ DiskFault) → Behind cs → IsTrue v.tells → Made cs v result w → StaysClosed v.current → Passes Closed v w × StaysClosed w.current
+closed_made : (cs : List Call) (v w : DiskView) (result : Result ⊤ DiskFault) → Behind cs → IsTrue v.tells → Made cs v result w → StaysClosed v.current → Passes (EachImage Closed) v w × StaysClosed w.current
 unfolding Made
 closed_made [] v w result behind told made stays =
-    let P : DiskView → Type 0 = λ d. Passes Closed v d × StaysClosed d.current in
-    subst P (sym made.0) (passes_here Closed v (closed_images v.current stays), stays)
+    let P : DiskView → Type 0 = λ d. Passes (EachImage Closed) v d × StaysClosed d.current in
+    subst P (sym made.0) (passes_here (EachImage Closed) v (closed_images v.current stays), stays)
 closed_made (c ∷ cs) v w result behind told made stays =
     let parts = behind_first c cs behind in
     elim made [
       | inl done ↦
           let u = done.0 in
           let next = closed_step c v u (Ok done.1.0) parts.0 told done.1.1 stays in
-          let first = passes_step Closed c v u (Ok done.1.0) told done.1.1 (closed_images v.current stays) (closed_images u.current next) in
+          let first = passes_step (EachImage Closed) c v u (Ok done.1.0) told done.1.1 (closed_images v.current stays) (closed_images u.current next) in
           let rest = closed_made cs u w result parts.1 (step_told c v u (Ok done.1.0) done.1.1 told) done.2 next in
-          (passes_trans Closed v u w first rest.0, rest.1)
+          (passes_trans (EachImage Closed) v u w first rest.0, rest.1)
       | inr refused ↦
           let next = closed_step c v w (Err refused.0) parts.0 told refused.1 stays in
-          (passes_step Closed c v w (Err refused.0) told refused.1 (closed_images v.current stays) (closed_images w.current next), next)
+          (passes_step (EachImage Closed) c v w (Err refused.0) told refused.1 (closed_images v.current stays) (closed_images w.current next), next)
     ]
 
 -- ---- what stands there once the calls were made
@@ -256,7 +257,7 @@ is_closed b e = grind (arith, nat_tests)
 
 blanked : (before : Moment) (cap : ℕ) (first : List ℕ) (token : ℕ) (open_now : Bool) (v w : DiskView) (result : Result ⊤ DiskFault) → IsTrue v.tells → v.current.pending ≡ [] → IsImage before v.current.seen
     → open_now ≡ not (get_or v.current.seen 0 0 == 0) → Made (closing open_now token 0) v result w
-    → Passes (IsInFormat before cap first) v w × (IsOk result → Blanked v w)
+    → Passes (EachImage (IsInFormat before cap first)) v w × (IsOk result → Blanked v w)
 unfolding Made
 blanked before cap first token true v w result told settled was opens made =
     let P : List ℕ → Type 0 = IsInFormat before cap first in
@@ -265,7 +266,7 @@ blanked before cap first token true v w result told settled was opens made =
       | inr done ↦
           let u = done.0 in
           let one : Blanked v u = record { told = done.1.told; settled = done.1.settled; closed = has_one u.current.seen 0 0 done.1.has; size = done.1.same.size } in
-          let Q : DiskView → Type 0 = λ d. Passes P v d in
+          let Q : DiskView → Type 0 = λ d. Passes (EachImage P) v d in
           let R : DiskView → Type 0 = Blanked v in
           (subst Q (sym done.3.0) done.2, λ ok. subst R (sym done.3.0) one)
     ]
@@ -273,14 +274,14 @@ blanked before cap first token false v w result told settled was opens made =
     let P : List ℕ → Type 0 = IsInFormat before cap first in
     let closed = is_closed (get_or v.current.seen 0 0) opens in
     let one : Blanked v v = record { told = told; settled = settled; closed = closed; size = refl } in
-    let Q : DiskView → Type 0 = λ d. Passes P v d in
+    let Q : DiskView → Type 0 = λ d. Passes (EachImage P) v d in
     let R : DiskView → Type 0 = Blanked v in
-    (subst Q (sym made.0) (passes_here P v (settled_images P v.current settled (inl closed))), λ ok. subst R (sym made.0) one)
+    (subst Q (sym made.0) (passes_here (EachImage P) v (settled_images P v.current settled (inl closed))), λ ok. subst R (sym made.0) one)
 
 -- the commit
 opened_log : (before : Moment) (token cap : ℕ) (first : List ℕ) (v u w : DiskView) (result : Result ⊤ DiskFault) → 4096 ≤ cap → cap ≤ 16_777_216 → length first ≤ cap → image_size cap ≤ length u.current.seen
     → Prepared cap first v u → Made (write token 0 (1 ∷ []) ∷ sync token ∷ []) u result w
-    → Passes (IsInFormat before cap first) u w × (IsOk result → IsFormatted cap first w)
+    → Passes (EachImage (IsInFormat before cap first)) u w × (IsOk result → IsFormatted cap first w)
 unfolding Made
 opened_log before token cap first v u w result least most small whole ready made =
     let P : List ℕ → Type 0 = IsInFormat before cap first in
@@ -295,19 +296,19 @@ opened_log before token cap first v u w result least most small whole ready made
           let t = done.0 in
           let one : get_or t.current.seen 0 0 ≡ 1 = has_one t.current.seen 0 1 done.1.has in
           let made_log : IsFormatted cap first t = record { settled = done.1.settled; holds = holds t.current.seen done.1.same (λ zero. omega arith) } in
-          let Q : DiskView → Type 0 = λ d. Passes P u d in
+          let Q : DiskView → Type 0 = λ d. Passes (EachImage P) u d in
           let R : DiskView → Type 0 = IsFormatted cap first in
           (subst Q (sym done.3.0) done.2, λ ok. subst R (sym done.3.0) made_log)
     ]
 
-closed_in : (before : Moment) (cap : ℕ) (first : List ℕ) (v w : DiskView) → Passes Closed v w → Passes (IsInFormat before cap first) v w
-closed_in before cap first v w passes = passes_weaken Closed (IsInFormat before cap first) v w (λ c closed. inl closed) passes
+closed_in : (before : Moment) (cap : ℕ) (first : List ℕ) (v w : DiskView) → Passes (EachImage Closed) v w → Passes (EachImage (IsInFormat before cap first)) v w
+closed_in before cap first v w passes = images_weaken Closed (IsInFormat before cap first) v w (λ c closed. inl closed) passes
 
 -- from a closed byte 0 on
 renewed_body : (before : Moment) (token cap : ℕ) (first : List ℕ) (v w : DiskView) (result : Result ⊤ DiskFault) → 4096 ≤ cap → cap ≤ 16_777_216 → length first ≤ cap → image_size cap ≤ length v.current.seen
     → IsTrue v.tells → v.current.pending ≡ [] → get_or v.current.seen 0 0 ≡ 0
     → Made (body_calls token cap first ++ write token (half_at cap 1) (0 ∷ []) ∷ sync token ∷ write token 0 (1 ∷ []) ∷ sync token ∷ []) v result w
-    → Passes (IsInFormat before cap first) v w × (IsOk result → IsFormatted cap first w)
+    → Passes (EachImage (IsInFormat before cap first)) v w × (IsOk result → IsFormatted cap first w)
 renewed_body before token cap first v w result least most small whole told settled closed made =
     let P : List ℕ → Type 0 = IsInFormat before cap first in
     let second = write token (half_at cap 1) (0 ∷ []) ∷ sync token ∷ [] in
@@ -324,7 +325,7 @@ renewed_body before token cap first v w result least most small whole told settl
           let behind' : Behind second = (omega arith, tt) in
           elim (made_split second last u w result body.2) [
             | inr refused ↦ (
-              passes_trans P v u w (closed_in before cap first v u one.0) (closed_in before cap first u w (closed_made second u w (Err refused.0) behind' text.told refused.1 one.1).0),
+              passes_trans (EachImage P) v u w (closed_in before cap first v u one.0) (closed_in before cap first u w (closed_made second u w (Err refused.0) behind' text.told refused.1 one.1).0),
               refused_result result refused.0 refused.2,
             )
             | inl sure ↦
@@ -332,14 +333,14 @@ renewed_body before token cap first v w result least most small whole told settl
                 let two = closed_made second u t (Ok sure.1.0) behind' text.told sure.1.1 one.1 in
                 let ready = prepared token cap first u t sure.1.0 small text.told text.text sure.1.1 in
                 let done = opened_log before token cap first u t w result least most small (omega (arith, ready.size, text.size)) ready sure.2 in
-                (passes_trans P v u w (closed_in before cap first v u one.0) (passes_trans P u t w (closed_in before cap first u t two.0) done.0), done.1)
+                (passes_trans (EachImage P) v u w (closed_in before cap first v u one.0) (passes_trans (EachImage P) u t w (closed_in before cap first u t two.0) done.0), done.1)
           ]
     ]
 
 renewed : (before : Moment) (token cap : ℕ) (first : List ℕ) (open_now : Bool) (v w : DiskView) (result : Result ⊤ DiskFault) → 4096 ≤ cap → cap ≤ 16_777_216 → length first ≤ cap → image_size cap ≤ length v.current.seen
     → IsTrue v.tells → v.current.pending ≡ [] → IsImage before v.current.seen → open_now ≡ not (get_or v.current.seen 0 0 == 0)
     → Made (renewing open_now token cap first) v result w
-    → Passes (IsInFormat before cap first) v w × (IsOk result → IsFormatted cap first w)
+    → Passes (EachImage (IsInFormat before cap first)) v w × (IsOk result → IsFormatted cap first w)
 renewed before token cap first open_now v w result least most small whole told settled was opens made =
     let P : List ℕ → Type 0 = IsInFormat before cap first in
     let rest = body_calls token cap first ++ write token (half_at cap 1) (0 ∷ []) ∷ sync token ∷ write token 0 (1 ∷ []) ∷ sync token ∷ [] in
@@ -350,7 +351,7 @@ renewed before token cap first open_now v w result least most small whole told s
           let first_part = blanked before cap first token open_now v u (Ok both.1.0) told settled was opens both.1.1 in
           let blank = first_part.1 refl in
           let second_part = renewed_body before token cap first u w result least most small (omega (arith, blank.size)) blank.told blank.settled blank.closed both.2 in
-          (passes_trans P v u w first_part.0 second_part.0, second_part.1)
+          (passes_trans (EachImage P) v u w first_part.0 second_part.0, second_part.1)
     ]
 
 -- ---- all calls
@@ -363,18 +364,18 @@ byte_told v u byte told reads =
 
 -- each moment, and what Ok leaves
 pub formatted : (token cap : ℕ) (first : List ℕ) (v w : DiskView) (result : Result ⊤ DiskFault) → 4096 ≤ cap → cap ≤ 16_777_216 → length first ≤ cap → image_size cap ≤ length v.current.seen → IsTrue v.tells
-    → FormatCalls token cap first v result w → Passes (IsInFormat v.current cap first) v w × (IsOk result → IsFormatted cap first w)
+    → FormatCalls token cap first v result w → Passes (EachImage (IsInFormat v.current cap first)) v w × (IsOk result → IsFormatted cap first w)
 formatted token cap first v w result least most small whole told calls =
     let P : List ℕ → Type 0 = IsInFormat v.current cap first in
-    let weaken = λ (d : DiskView) (passes : Passes (IsImage v.current) v d). passes_weaken (IsImage v.current) P v d (λ c was. untouched v.current cap first c was) passes in
+    let weaken = λ (d : DiskView) (passes : Passes (IsInOpen v.current token) v d). passes_weaken (IsInOpen v.current token) (EachImage P) v d (λ m was c image. untouched v.current cap first c (was.1 c image)) passes in
     elim calls [
       | inr refused ↦ (weaken w ((taken_err token v w refused.0 refused.1).1 told), refused_result result refused.0 refused.2)
       | inl both ↦
           let u = both.0 in
           let taken = taken_ok token v u tt both.1 in
-          let passes : Passes P v u = weaken u (taken.passes told) in
+          let passes : Passes (EachImage P) v u = weaken u (taken.passes told) in
           elim both.2 [
-            | inr failed ↦ (passes_read P v u w (only_read u w 0 (failed.1.0 ∷ []) (Err failed.0) failed.1.1) passes, refused_result result failed.0 failed.2)
+            | inr failed ↦ (passes_read (EachImage P) v u w (only_read u w 0 (failed.1.0 ∷ []) (Err failed.0) failed.1.1) passes, refused_result result failed.0 failed.2)
             | inl read ↦
                 let t = read.1 in
                 let only = only_read u t 0 (read.0 ∷ []) (Ok tt) read.2 in
@@ -385,25 +386,15 @@ formatted token cap first v w result least most small whole told calls =
                 let was : IsImage v.current t.current.seen = (let Q : List ℕ → Type 0 = IsImage v.current in subst Q (sym seen) (seen_image v.current)) in
                 let there = byte_told u t read.0 told_u read.2 in
                 let done = renewed v.current token cap first (not (read.0 == 0)) t w result least most small (omega (arith, ap (λ xs. length xs) seen)) told_t settled was there read.3 in
-                (passes_trans P v t w (passes_read P v u t only passes) done.0, done.1)
+                (passes_trans (EachImage P) v t w (passes_read (EachImage P) v u t only passes) done.0, done.1)
           ]
     ]
 
 -- ---- the causes
 
-made_held : (token : ℕ) (cs : List Call) (v w : DiskView) (result : Result ⊤ DiskFault) → Carries token cs → Made cs v result w → IsOk result → w.current.held ≡ v.current.held
-unfolding Made
-made_held token [] v w result carries made ok = ap (λ (d : DiskView). d.current.held) made.0
-made_held token (c ∷ cs) v w result carries made ok =
-    let parts = carries_first token c cs carries in
-    elim made [
-      | inl done ↦ made_held token cs done.0 w result parts.1 done.2 ok ∙ (step_held token c v done.0 done.1.0 parts.0 done.1.1).1
-      | inr refused ↦ refused_result result refused.0 refused.2 ok
-    ]
-
 carried_by : (token : ℕ) (c : Call) (cs : List Call) (v w : DiskView) (result : Result ⊤ DiskFault) → Carries token (c ∷ cs) → Made (c ∷ cs) v result w
     → AnsweredBy token v result w × (IsOk result → w.current.held ≡ v.current.held)
-carried_by token c cs v w result carries made = (made_answer token c cs v w result carries made, made_held token (c ∷ cs) v w result carries made)
+carried_by token c cs v w result carries made = (made_answer token c cs v w result carries made, λ ok. made_held token (c ∷ cs) v w result carries made)
 
 carried : (open_now is_short : Bool) (token cap : ℕ) (first : List ℕ) (v w : DiskView) (result : Result ⊤ DiskFault)
     → Made (closing open_now token 0 ++ ((if is_short then joined token cap first else parted token cap first) ++ write token (half_at cap 1) (0 ∷ []) ∷ sync token ∷ write token 0 (1 ∷ []) ∷ sync token ∷ [])) v result w
@@ -454,5 +445,24 @@ format_answer token cap first v w result calls = elim calls [
             let held : t.current.held ≡ token = ap (λ (m : Moment). m.held) read.2.current ∙ taken.held in
             let answer = carried (not (read.0 == 0)) (nat_le (length first) 4007) token cap first t w result read.3 in
             (behind_claim token v t w result taken.held_before held (omega (arith, taken.same.faults, read.2.same.faults)) answer.0, λ ok. answer.1 ok ∙ held)
+      ]
+]
+
+byte_same : (v w : DiskView) (result : Result ℕ DiskFault) → ReadsByte v result w → SameDisk v w
+byte_same v w (Ok byte) reads = reads.same
+byte_same v w (Err fault) reads = reads.1.same
+
+pub format_same : (token cap : ℕ) (first : List ℕ) (v w : DiskView) (result : Result ⊤ DiskFault) → FormatCalls token cap first v result w → SameDisk v w
+format_same token cap first v w result calls = elim calls [
+  | inr refused ↦ made_same (claim token ∷ sync token ∷ []) v w (Err refused.0) refused.1
+  | inl both ↦
+      let u = both.0 in
+      let taken = made_same (claim token ∷ sync token ∷ []) v u (Ok tt) both.1 in
+      elim both.2 [
+        | inr failed ↦ same_disk-trans v u w taken (byte_same u w (Err failed.0) failed.1)
+        | inl read ↦
+            let t = read.1 in
+            let before = same_disk-trans v u t taken (byte_same u t (Ok read.0) read.2) in
+            same_disk-trans v t w before (made_same (renewing (not (read.0 == 0)) token cap first) t w result read.3)
       ]
 ]

@@ -3,10 +3,10 @@ use Rattle.std.proofs.Common.{◌≡◌, ◌≢◌, ℕ, ◌+◌, ◌-◌, ◌*�
 use Rattle.quorum_log.specs.declared.found.Found.{Found}
 use Rattle.quorum_log.specs.declared.found.FoundRecord.{FoundRecord}
 use Rattle.quorum_log.specs.Layout.{window, number_at, half_size, half_at, image_size, most_record, most_records, next_generation}
-use Rattle.quorum_log.specs.Image.{Holds, IsHalf, IsRecord, IsCurrent, Listed, commit_behind, start_of, end_of, other_of, list_at, tail_of}
+use Rattle.quorum_log.specs.Image.{Holds, IsHalf, IsFramed, IsCurrent, Listed, commit_behind, start_of, end_of, other_of, list_at, tail_of}
 use Rattle.quorum_log.proofs.Places.{SameWithin, same_number, same_window, within_part}
 
-pub kept_record : (old new : List ℕ) (end at : ℕ) (r : FoundRecord) → SameWithin at (at + 5 + length r.bytes) old new → IsRecord old end at r → IsRecord new end at r
+pub kept_record : (old new : List ℕ) (end at : ℕ) (r : FoundRecord) → SameWithin at (at + 5 + length r.bytes) old new → IsFramed old end at r → IsFramed new end at r
 kept_record old new end at r same is = record {
   commit = rw (same at (omega arith) (omega arith)) is.commit;
   place = is.place;
@@ -54,8 +54,7 @@ holds_by x rs old new is whole header half current listed closed count = record 
   magic_is = same_window old new 0 64 1 7 header (omega arith) (omega arith) ∙ is.magic_is;
   header_version = rw (same_number old new 0 64 8 4 header (omega arith) (omega arith)) is.header_version;
   cap_is = same_number old new 0 64 12 4 header (omega arith) (omega arith) ∙ is.cap_is;
-  cap_least = is.cap_least;
-  cap_most = is.cap_most;
+  cap_range = is.cap_range;
   whole = whole;
   half = is.half;
   fields = kept_half old new (start_of x) x.version x.generation x.base x.state x.last half is.fields;
@@ -70,7 +69,7 @@ holds_by x rs old new is whole header half current listed closed count = record 
 }
 
 -- one record more
-pub listed_push : (image : List ℕ) (end at : ℕ) (rs : List FoundRecord) (r : FoundRecord) → Listed image end at rs → IsRecord image end (commit_behind at rs) r → Listed image end at (rs ++ r ∷ [])
+pub listed_push : (image : List ℕ) (end at : ℕ) (rs : List FoundRecord) (r : FoundRecord) → Listed image end at rs → IsFramed image end (commit_behind at rs) r → Listed image end at (rs ++ r ∷ [])
 listed_push image end at [] r listed one = (one, tt)
 listed_push image end at (k ∷ rs) r listed one = (listed.0, listed_push image end (at + 5 + length k.bytes) rs r listed.1 one)
 

@@ -1,4 +1,5 @@
 pub mod Moments
+pub mod CallLaws
 pub mod Places
 pub mod Kept
 pub mod Appends
@@ -8,6 +9,7 @@ pub mod Halves
 pub mod Transfers
 pub mod Opened
 pub mod Unchanged
+pub mod Values
 pub mod Checkpoints
 pub mod Checkpointed
 pub mod Texts

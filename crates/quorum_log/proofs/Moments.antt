@@ -1,7 +1,7 @@
 -- Lists of disk calls: what each image of each moment is while they are made.
 use Rattle.std.proofs.Common.{◌≡◌, ℕ, ◌+◌, ◌-◌, ◌<◌, ◌≤◌, ◌⊎◌, inl, inr, Bool, IsTrue, List, [], ◌∷◌, ◌++◌, length, get_or, Result, Ok, Err, IsOk, refl, sym, ap, ◌∙◌, subst, arith, append_assoc}
 use Rattle.std.specs.Prelude.{⊤}
-use Rattle.std.proofs.lemmas.List.{append-nil, ext_get_or}
+use Rattle.std.proofs.lemmas.List.{append-nil, append_cancel_left, ext_get_or}
 use Rattle.std.specs.List.{AllByRecursion}
 use Rattle.causes.specs.Counts.{Rose}
 use Rattle.disk_core.specs.declared.fault.DiskFault.{DiskFault}
@@ -29,30 +29,39 @@ All-weaken : {X : Type 0} (P Q : X → Type 0) (xs : List X) → ((x : X) → P 
 All-weaken P Q [] f a = tt
 All-weaken P Q (x ∷ xs) f a = (f x a.0, All-weaken P Q xs f a.1)
 
-pub passes_here : (P : List ℕ → Type 0) (v : DiskView) → EachImage P v.current → Passes P v v
+pub passes_here : (P : Moment → Type 0) (v : DiskView) → P v.current → Passes P v v
 passes_here P v p = record { further = []; goes_on = sym (append-nil (moments v)); first = p; each = tt }
 
-pub passes_trans : (P : List ℕ → Type 0) (v u w : DiskView) → Passes P v u → Passes P u w → Passes P v w
+pub passes_trans : (P : Moment → Type 0) (v u w : DiskView) → Passes P v u → Passes P u w → Passes P v w
 passes_trans P v u w a b = record {
   further = a.further ++ b.further;
   goes_on = b.goes_on ∙ ap (λ ms. ms ++ b.further) a.goes_on ∙ append_assoc (moments v) a.further b.further;
   first = a.first;
-  each = All-append (EachImage P) a.further b.further a.each b.each;
+  each = All-append P a.further b.further a.each b.each;
 }
 
-pub passes_weaken : (P Q : List ℕ → Type 0) (v w : DiskView) → ((c : List ℕ) → P c → Q c) → Passes P v w → Passes Q v w
-passes_weaken P Q v w f a = record {
-  further = a.further;
-  goes_on = a.goes_on;
-  first = λ c image. f c (a.first c image);
-  each = All-weaken (EachImage P) (EachImage Q) a.further (λ m p c image. f c (p c image)) a.each;
-}
+pub passes_weaken : (P Q : Moment → Type 0) (v w : DiskView) → ((m : Moment) → P m → Q m) → Passes P v w → Passes Q v w
+passes_weaken P Q v w f a = record { further = a.further; goes_on = a.goes_on; first = f v.current a.first; each = All-weaken P Q a.further f a.each }
+
+pub images_weaken : (P Q : List ℕ → Type 0) (v w : DiskView) → ((c : List ℕ) → P c → Q c) → Passes (EachImage P) v w → Passes (EachImage Q) v w
+images_weaken P Q v w f a = passes_weaken (EachImage P) (EachImage Q) v w (λ m p c image. f c (p c image)) a
+
+All-both : {X : Type 0} (P Q : X → Type 0) (xs : List X) → AllByRecursion P xs → AllByRecursion Q xs → AllByRecursion (λ x. P x × Q x) xs
+All-both P Q [] a b = tt
+All-both P Q (x ∷ xs) a b = ((a.0, b.0), All-both P Q xs a.1 b.1)
+
+-- the same moments have both
+pub passes_both : (P Q : Moment → Type 0) (v w : DiskView) → Passes P v w → Passes Q v w → Passes (λ m. P m × Q m) v w
+passes_both P Q v w a b =
+    let same : b.further ≡ a.further = append_cancel_left (moments v) b.further a.further (sym b.goes_on ∙ a.goes_on) in
+    let R : List Moment → Type 0 = λ ms. AllByRecursion Q ms in
+    record { further = a.further; goes_on = a.goes_on; first = (a.first, b.first); each = All-both P Q a.further a.each (subst R same b.each) }
 
 same_moments : (v w : DiskView) → w.past ≡ v.past → w.current ≡ v.current → moments w ≡ moments v
 same_moments v w past current = cc
 
 -- one call
-pub passes_step : (P : List ℕ → Type 0) (c : Call) (v w : DiskView) (result : Result ⊤ DiskFault) → IsTrue v.tells → Step c v result w → EachImage P v.current → EachImage P w.current → Passes P v w
+pub passes_step : (P : Moment → Type 0) (c : Call) (v w : DiskView) (result : Result ⊤ DiskFault) → IsTrue v.tells → Step c v result w → P v.current → P w.current → Passes P v w
 passes_step P c v w result told step before after = elim (step.time told) [
   | inl next ↦ record { further = w.current ∷ []; goes_on = ap (λ ms. ms ++ w.current ∷ []) next; first = before; each = (after, tt) }
   | inr same ↦ record { further = []; goes_on = same_moments v w same.0 same.1 ∙ sym (append-nil (moments v)); first = before; each = tt }
@@ -106,21 +115,21 @@ refused_sync P n v w (Fenced held) told step before = let Q : Moment → Type 0 
 pub pair : (P : List ℕ → Type 0) (n at : ℕ) (bytes : List ℕ) (cs : List Call) (v w : DiskView) (result : Result ⊤ DiskFault)
     → IsTrue v.tells → v.current.pending ≡ [] → ((c : List ℕ) → SameOutside at (length bytes) v.current.seen c → P c)
     → Made (write n at bytes ∷ sync n ∷ cs) v result w
-    → (Passes P v w × ((e : DiskFault) × (result ≡ Err e))) ⊎ ((u : DiskView) × Put at bytes v u × Passes P v u × Made cs u result w)
+    → (Passes (EachImage P) v w × ((e : DiskFault) × (result ≡ Err e))) ⊎ ((u : DiskView) × Put at bytes v u × Passes (EachImage P) v u × Made cs u result w)
 unfolding Made
 pair P n at bytes cs v w result told none torn made =
     let before : EachImage P v.current = settled_images P v.current none (torn v.current.seen (same_outside-here at (length bytes) v.current.seen)) in
     elim made [
-      | inr refused ↦ inl (passes_step P (write n at bytes) v w (Err refused.0) told refused.1 before (refused_write P n at bytes v w refused.0 told none torn refused.1), (refused.0, refused.2))
+      | inr refused ↦ inl (passes_step (EachImage P) (write n at bytes) v w (Err refused.0) told refused.1 before (refused_write P n at bytes v w refused.0 told none torn refused.1), (refused.0, refused.2))
       | inl written ↦
           let m = written.0 in
           let step = written.1.1 in
           let puts = step.answer.2 told in
           let told' = step_told (write n at bytes) v m (Ok written.1.0) step told in
           let images : EachImage P m.current = λ c image. torn c (torn_image at (length bytes) v.current.seen m.current (one_pending v.current m.current (record { at = at; len = length bytes }) none puts.pending) puts.outside c image) in
-          let first : Passes P v m = passes_step P (write n at bytes) v m (Ok written.1.0) told step before images in
+          let first : Passes (EachImage P) v m = passes_step (EachImage P) (write n at bytes) v m (Ok written.1.0) told step before images in
           elim written.2 [
-            | inr refused ↦ inl (passes_trans P v m w first (passes_step P (sync n) m w (Err refused.0) told' refused.1 images (refused_sync P n m w refused.0 told' refused.1 images)), (refused.0, refused.2))
+            | inr refused ↦ inl (passes_trans (EachImage P) v m w first (passes_step (EachImage P) (sync n) m w (Err refused.0) told' refused.1 images (refused_sync P n m w refused.0 told' refused.1 images)), (refused.0, refused.2))
             | inl synced ↦
                 let u = synced.0 in
                 let sure = synced.1.1 in
@@ -138,7 +147,7 @@ pair P n at bytes cs v w result told none torn made =
                   same = same;
                 } in
                 let last : EachImage P u.current = settled_images P u.current settled (torn u.current.seen same) in
-                inr (u, put, passes_trans P v m u first (passes_step P (sync n) m u (Ok synced.1.0) told' sure images last), synced.2)
+                inr (u, put, passes_trans (EachImage P) v m u first (passes_step (EachImage P) (sync n) m u (Ok synced.1.0) told' sure images last), synced.2)
           ]
     ]
 

@@ -7,7 +7,7 @@ use Rattle.quorum_log.specs.declared.fault.OpenFault.TheVariants.{BadImage}
 use Rattle.quorum_log.specs.declared.found.Found.{Found}
 use Rattle.quorum_log.specs.declared.found.FoundRecord.{FoundRecord}
 use Rattle.quorum_log.specs.Layout.{window, number_at, magic, half_size, half_at, image_size, most_record, next_generation}
-use Rattle.quorum_log.specs.Image.{Holds, IsCurrent, IsRecord, Listed, commit_behind, end_of, list_at, other_of, start_of}
+use Rattle.quorum_log.specs.Image.{Holds, IsCurrent, IsFramed, Listed, commit_behind, end_of, list_at, other_of, start_of}
 use Rattle.quorum_log.proofs.OneLog.{not_both_next}
 use Rattle.quorum_log.specs.Checks.{HalvesFault, HasBadLength, IsBadBehind, IsBadHalf, IsBadImage, IsTooMany, current_half, first_bad, halves_checks, header_checks, is_next, is_valid, length_checks, list_in}
 
@@ -17,7 +17,7 @@ use Rattle.quorum_log.specs.Checks.{HalvesFault, HasBadLength, IsBadBehind, IsBa
 abbrev Stops : List ℕ → ℕ → ℕ → Type 0
 Stops image end at = (get_or image at 0 ≡ 0) ⊎ HasBadLength image end at
 
-no_stop : (image : List ℕ) (end at : ℕ) (r : FoundRecord) → IsRecord image end at r → Stops image end at → ⊥
+no_stop : (image : List ℕ) (end at : ℕ) (r : FoundRecord) → IsFramed image end at r → Stops image end at → ⊥
 no_stop image end at r is (inl closed) = is.commit closed
 no_stop image end at r is (inr (inl none)) = absurd (omega (arith, is.size, is.some, none))
 no_stop image end at r is (inr (inr (inl long))) = absurd (omega (arith, is.size, is.most, long))
@@ -93,7 +93,7 @@ header_passes image size x is room =
       | inr two ↦ rw two refl
     ] in
     let cap : (nat_le 4096 (number_at image 12 4) && nat_le (number_at image 12 4) 16777216 && nat_le (image_size (number_at image 12 4)) size) ≡ true =
-    ap (λ n. nat_le 4096 n && nat_le n 16777216 && nat_le (image_size n) size) is.cap_is ∙ cap_passes x.cap size is.cap_least is.cap_most room in
+    ap (λ n. nat_le 4096 n && nat_le n 16777216 && nat_le (image_size n) size) is.cap_is ∙ cap_passes x.cap size is.cap_range.0 is.cap_range.1 room in
     rw (name, version, cap) refl
 
 -- The half is current that is valid where the other one isn't, or comes right behind it.

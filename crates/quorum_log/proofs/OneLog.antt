@@ -5,7 +5,7 @@ use Rattle.std.proofs.lemmas.Bool.{cases_lt}
 use Rattle.quorum_log.specs.declared.found.Found.{Found}
 use Rattle.quorum_log.specs.declared.found.FoundRecord.{FoundRecord}
 use Rattle.quorum_log.specs.Layout.{window, number_at, half_size, half_at, version_of, base_of, next_generation}
-use Rattle.quorum_log.specs.Image.{Holds, IsHalf, IsRecord, IsCurrent, Listed, commit_behind, start_of, end_of, other_of, list_at, tail_of}
+use Rattle.quorum_log.specs.Image.{Holds, IsHalf, IsFramed, IsCurrent, Listed, commit_behind, start_of, end_of, other_of, list_at, tail_of}
 
 -- no two generations are each the next one of the other
 next_cases : (g : ℕ) → g < 2 ^ 64 → (next_generation g ≡ g + 1) ⊎ ((next_generation g ≡ 0) × (g + 1 ≡ 2 ^ 64))
@@ -90,7 +90,7 @@ same_record r s at bytes =
     let made : ℕ → List ℕ → FoundRecord = λ n xs. record { at = n; bytes = xs } in
     let e : made r.at r.bytes ≡ made s.at s.bytes = rw (at, bytes) refl in e
 
-one_record : (image : List ℕ) (end end' at : ℕ) (r s : FoundRecord) → IsRecord image end at r → IsRecord image end' at s → r ≡ s
+one_record : (image : List ℕ) (end end' at : ℕ) (r s : FoundRecord) → IsFramed image end at r → IsFramed image end' at s → r ≡ s
 one_record image end end' at r s a b = same_record r s (a.place ∙ sym b.place) (one_window image (at + 5) r.bytes s.bytes a.bytes b.bytes (sym a.size ∙ b.size))
 
 one_list : (image : List ℕ) (end end' at : ℕ) (rs ss : List FoundRecord) → Listed image end at rs → get_or image (commit_behind at rs) 0 ≡ 0

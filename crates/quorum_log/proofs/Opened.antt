@@ -5,7 +5,7 @@ use Rattle.causes.specs.Counts.{Rose}
 use Rattle.std.proofs.lemmas.List.{get_or_append_left}
 use Rattle.disk_core.specs.declared.fault.DiskFault.{DiskFault}
 use Rattle.disk_core.specs.declared.fault.DiskFault.TheVariants as disk_faults
-use Rattle.disk_core.specs.Images.{Moment, Has, IsImage}
+use Rattle.disk_core.specs.Images.{Moment, Has, IsImage, EachImage}
 use Rattle.disk_core.specs.Views.{DiskView, Passes, moments}
 use Rattle.disk_core.specs.Calls.{Call, sync, claim, Step, ReadStep, Made, SameDisk}
 use Rattle.quorum_log.specs.declared.fault.OpenFault.{OpenFault}
@@ -13,11 +13,13 @@ use Rattle.quorum_log.specs.declared.fault.OpenFault.TheVariants.{Failed, Fenced
 use Rattle.quorum_log.specs.declared.found.Found.{Found}
 use Rattle.quorum_log.specs.Layout.{half_at, image_size, number_at}
 use Rattle.quorum_log.specs.Image.{Holds, other_of}
-use Rattle.quorum_log.specs.Checks.{first_bad, header_checks, is_valid, current_half, HeaderFault, HalvesFault, IsBadImage, IsFoundCurrent}
+use Rattle.quorum_log.specs.Checks.{first_bad, header_checks, is_valid, current_half, HeaderFault, HalvesFault, IsBadImage}
+use Rattle.quorum_log.specs.Readings.{IsFoundCurrent}
 use Rattle.quorum_log.specs.Faults.{open_fault}
 use Rattle.quorum_log.specs.Logs.{StandsFor, log_of}
-use Rattle.quorum_log.specs.Opening.{OnlyRead, IsRead, ReadFails, ReadsImage, OpenFails}
-use Rattle.quorum_log.proofs.Moments.{passes_step, passes_trans, passes_here, step_told, settled_images, rose_before}
+use Rattle.quorum_log.specs.Opening.{OnlyRead, IsRead, WasRead, IsInOpen, ReadFails, ReadsImage, AnswersImage, OpenFails}
+use Rattle.quorum_log.proofs.Moments.{passes_step, passes_trans, step_told, settled_images, rose_before}
+use Rattle.quorum_log.proofs.CallLaws.{same_disk-trans}
 use Rattle.quorum_log.proofs.Places.{SameWithin, same_number, within_part}
 use Rattle.quorum_log.proofs.Halves.{has_same, has_joined, half_within, other_which}
 use Rattle.quorum_log.proofs.Transfers.{header_refused, same_header, halves_refused, header_good, found_holds, holds_seen}
@@ -72,7 +74,7 @@ pub record Taken (n : ℕ) (v u : DiskView) : Type 0 where
   pub same : SameDisk v u
   pub settled : IsTrue v.tells → u.current.pending ≡ []
   pub seen : IsTrue v.tells → u.current.seen ≡ v.current.seen
-  pub passes : IsTrue v.tells → Passes (IsImage v.current) v u
+  pub passes : IsTrue v.tells → Passes (IsInOpen v.current n) v u
 
 pub seen_image : (m : Moment) → IsImage m m.seen
 seen_image m = record { size = refl; outside = λ i free. refl }
@@ -86,8 +88,8 @@ claimed_images v m n same c image =
 refused_images : (v m w : DiskView) → w.current ≡ m.current → ((c : List ℕ) → IsImage m.current c → IsImage v.current c) → (c : List ℕ) → IsImage w.current c → IsImage v.current c
 refused_images v m w same before c image = before c (let P : Moment → Type 0 = λ x. IsImage x c in subst P same image)
 
-same_disk-trans : (v m u : DiskView) → SameDisk v m → SameDisk m u → SameDisk v u
-same_disk-trans v m u a b = record { size = b.size ∙ a.size; tells = b.tells ∙ a.tells; faults = omega (arith, a.faults, b.faults) }
+same_token : (v w : DiskView) → w.current ≡ v.current → w.current.held ≡ v.current.held
+same_token v w same = ap (λ (m : Moment). m.held) same
 
 refused_claim : (n : ℕ) (v w : DiskView) (e : DiskFault) → Step (claim n) v (Err e) w → OpenFails n v w (open_fault e) × (IsTrue v.tells → w.current ≡ v.current)
 refused_claim n v w disk_faults.Failed step = ((step.answer.0, step.answer.1), λ told. step.answer.3 told)
@@ -97,14 +99,17 @@ refused_sync : (n : ℕ) (v m w : DiskView) (e : DiskFault) → v.current.held �
 refused_sync n v m w disk_faults.Failed before held later step = ((before, rose_before v.faults m.faults w.faults later step.answer.1), λ told. step.answer.3 told)
 refused_sync n v m w (disk_faults.Fenced token) before held later step = absurd (omega (arith, step.answer.0, held))
 
-pub taken_err : (n : ℕ) (v w : DiskView) (e : DiskFault) → Made (claim n ∷ sync n ∷ []) v (Err e) w → OpenFails n v w (open_fault e) × (IsTrue v.tells → Passes (IsImage v.current) v w)
+pub taken_err : (n : ℕ) (v w : DiskView) (e : DiskFault) → Made (claim n ∷ sync n ∷ []) v (Err e) w → OpenFails n v w (open_fault e) × (IsTrue v.tells → Passes (IsInOpen v.current n) v w)
 unfolding Made
 taken_err n v w e made = elim made [
   | inr refused ↦
       let f = refused_claim n v w refused.0 refused.1 in
       let same : refused.0 ≡ e = cc (refused.2) in
       let P : DiskFault → Type 0 = λ x. OpenFails n v w (open_fault x) in
-      (subst P same f.0, λ told. passes_step (IsImage v.current) (claim n) v w (Err refused.0) told refused.1 (λ c image. image) (refused_images v v w (f.1 told) (λ c image. image)))
+      let Q = IsInOpen v.current n in (
+        subst P same f.0,
+        λ told. passes_step Q (claim n) v w (Err refused.0) told refused.1 (inl refl, λ c image. image) (inl (same_token v w (f.1 told)), refused_images v v w (f.1 told) (λ c image. image)),
+      )
   | inl first ↦
       let m = first.0 in
       let step = first.1.1 in
@@ -112,13 +117,16 @@ taken_err n v w e made = elim made [
         | inr refused ↦
             let f = refused_sync n v m w refused.0 step.answer.0 step.answer.1 step.same.faults refused.1 in
             let same : refused.0 ≡ e = cc (refused.2) in
-            let P : DiskFault → Type 0 = λ x. OpenFails n v w (open_fault x) in (
+            let P : DiskFault → Type 0 = λ x. OpenFails n v w (open_fault x) in
+            let Q = IsInOpen v.current n in (
               subst P same f.0,
               λ told.
                   let told' = step_told (claim n) v m (Ok first.1.0) step told in
                   let images = claimed_images v m n (step.answer.2 told) in
-                  passes_trans (IsImage v.current) v m w (passes_step (IsImage v.current) (claim n) v m (Ok first.1.0) told step (λ c image. image) images)
-                  (passes_step (IsImage v.current) (sync n) m w (Err refused.0) told' refused.1 images (refused_images v m w (f.1 told') images)),
+                  let between : Q m.current = (inr step.answer.1, images) in
+                  let after : Q w.current = (inr (same_token m w (f.1 told') ∙ step.answer.1), refused_images v m w (f.1 told') images) in
+                  passes_trans Q v m w (passes_step Q (claim n) v m (Ok first.1.0) told step (inl refl, λ c image. image) between)
+                  (passes_step Q (sync n) m w (Err refused.0) told' refused.1 between after),
             )
         | inl second ↦ absurd (refuted e second.2.1)
       ]
@@ -139,39 +147,44 @@ taken_ok n v u ok made = elim made [
             let told' = λ (told : IsTrue v.tells). step_told (claim n) v m (Ok first.1.0) step told in
             let seen = λ (told : IsTrue v.tells). ap (λ (x : Moment). x.seen) (sure.answer.2 (told' told)) ∙ ap (λ (x : Moment). x.seen) (step.answer.2 told) in
             let settled = λ (told : IsTrue v.tells). ap (λ (x : Moment). x.pending) (sure.answer.2 (told' told)) in
+            let held : t.current.held ≡ n = sure.answer.1 ∙ step.answer.1 in
+            let Q = IsInOpen v.current n in
+            let I : List ℕ → Type 0 = IsImage v.current in
             let taken : Taken n v t = record {
               held_before = step.answer.0;
-              held = sure.answer.1 ∙ step.answer.1;
+              held = held;
               same = same_disk-trans v m t step.same sure.same;
               settled = settled;
               seen = seen;
               passes = λ told.
-                  let images = claimed_images v m n (step.answer.2 told) in
-                  let Q : List ℕ → Type 0 = IsImage v.current in
-                  passes_trans Q v m t (passes_step Q (claim n) v m (Ok first.1.0) told step (λ c image. image) images)
-                  (passes_step Q (sync n) m t (Ok second.1.0) (told' told) sure images (settled_images Q t.current (settled told) (subst Q (sym (seen told)) (seen_image v.current))));
+                  let between : Q m.current = (inr step.answer.1, claimed_images v m n (step.answer.2 told)) in
+                  let after : Q t.current = (inr held, settled_images I t.current (settled told) (subst I (sym (seen told)) (seen_image v.current))) in
+                  passes_trans Q v m t (passes_step Q (claim n) v m (Ok first.1.0) told step (inl refl, λ c image. image) between)
+                  (passes_step Q (sync n) m t (Ok second.1.0) (told' told) sure between after);
             } in
             let P : DiskView → Type 0 = λ x. Taken n v x in subst P (sym second.2.0) taken
       ]
 ]
 
 -- reads make no moment
-pub passes_read : (P : List ℕ → Type 0) (v u w : DiskView) → OnlyRead u w → Passes P v u → Passes P v w
+pub passes_read : (P : Moment → Type 0) (v u w : DiskView) → OnlyRead u w → Passes P v u → Passes P v w
 passes_read P v u w only passes =
     let same : moments w ≡ moments u = cc (only.past, only.current) in
     record { further = passes.further; goes_on = same ∙ passes.goes_on; first = passes.first; each = passes.each }
 
 -- the causes behind the claim
-pub refused_image : (n : ℕ) (v u w : DiskView) (e : OpenFault) → Taken n v u → ReadFails u w e → OpenFails n v w e
-refused_image n v u w Failed taken fault = (taken.held_before, rose_before v.faults u.faults w.faults taken.same.faults fault)
-refused_image n v u w (Fenced held) taken fault = absurd fault
-refused_image n v u w Blank taken fault = (
-  taken.held_before,
-  λ told.
+pub refused_image : (n : ℕ) (v u w : DiskView) (e : OpenFault) → Taken n v u → OnlyRead u w → ReadFails u w e → OpenFails n v w e
+refused_image n v u w Failed taken only fault = (taken.held_before, rose_before v.faults u.faults w.faults taken.same.faults fault)
+refused_image n v u w (Fenced held) taken only fault = absurd fault
+refused_image n v u w Blank taken only fault = record {
+  held_before = taken.held_before;
+  held = same_token u w only.current ∙ taken.held;
+  settled = λ told. ap (λ (m : Moment). m.pending) only.current ∙ taken.settled told;
+  blank = λ told.
       let there : IsTrue u.tells = (let P : Bool → Type 0 = λ b. IsTrue b in subst P (sym taken.same.tells) told) in
-      let P : List ℕ → Type 0 = λ xs. get_or xs 0 0 ≡ 0 in subst P (taken.seen told) (fault there),
-)
-refused_image n v u w (BadImage place) taken fault = (
+      let P : List ℕ → Type 0 = λ xs. get_or xs 0 0 ≡ 0 in subst P (taken.seen told) (fault there);
+}
+refused_image n v u w (BadImage place) taken only fault = (
   taken.held_before,
   λ told.
       let there : IsTrue u.tells = (let P : Bool → Type 0 = λ b. IsTrue b in subst P (sym taken.same.tells) told) in
@@ -180,7 +193,7 @@ refused_image n v u w (BadImage place) taken fault = (
       let header : HeaderFault v.current.seen v.size (BadImage place) = subst Q taken.same.size (subst P (taken.seen told) (fault there)) in
       (header.0, inl header.1),
 )
-refused_image n v u w Memory taken fault = tt
+refused_image n v u w Memory taken only fault = tt
 
 pub refused_halves : (n : ℕ) (v u w : DiskView) (image : List ℕ) (cap : ℕ) (e : OpenFault) → Taken n v u → IsRead u image cap → HalvesFault image cap e → OpenFails n v w e
 refused_halves n v u w image cap (BadImage place) taken read fault = (
@@ -236,12 +249,28 @@ opened n v u w image cap x other_valid taken read only found is_other told =
       other = subst Q (sym only.current) other;
     }
 
--- both reads were made, whatever is answered then
-pub reads_on : (v w : DiskView) (result : Result ⊤ OpenFault) → ReadsImage v (Ok tt) w → ReadsImage v result w
-reads_on v w result reads = elim reads.2 [
-  | inl failed ↦ absurd (cc (failed.2))
-  | inr read ↦ elim read [
-    | inl stopped ↦ absurd (cc (stopped.3))
-    | inr rest ↦ (reads.0, reads.1, inr (inr rest))
-  ]
-]
+pub was_read : (n : ℕ) (v u : DiskView) (image : List ℕ) (cap : ℕ) (x : Found) → Taken n v u → IsRead u image cap → IsFoundCurrent image cap x → WasRead v x
+was_read n v u image cap x taken read found =
+    let header = header_good image u.size read.header in
+    record {
+      image = image;
+      size = rw found.found.cap_is read.size;
+      within = omega (arith, header.room, read.cap_is, found.found.cap_is, taken.same.size);
+      holds = found_in u image cap x read found;
+      seen = λ told.
+          let there : IsTrue u.tells = (let P : Bool → Type 0 = λ b. IsTrue b in subst P (sym taken.same.tells) told) in
+          let P : List ℕ → Type 0 = λ xs. Has xs 0 image in subst P (taken.seen told) (read.has there);
+    }
+
+-- the checks' fault is one of the image that was read
+pub image_fault : (u : DiskView) (image : List ℕ) (cap : ℕ) (e : OpenFault) → IsRead u image cap → HalvesFault image cap e → HalvesFault image (number_at image 12 4) e
+image_fault u image cap e read fault = let P : ℕ → Type 0 = λ n. HalvesFault image n e in subst P read.cap_is fault
+
+-- both reads were made
+pub reads_rest : (v u w : DiskView) (header rest : List ℕ) (size cap whole : ℕ) (answer : Result ⊤ DiskFault) (result : Result Found OpenFault) → length header ≡ 64 → size ≡ v.size
+    → ReadStep v 0 header (Ok tt) u → first_bad (header_checks header size) ≡ None → cap ≡ number_at header 12 4 → whole ≡ image_size cap → 64 + length rest ≡ whole → ReadStep u 64 rest answer w
+    → AnswersImage (header ++ rest) answer result → ReadsImage v result w
+reads_rest v u w header rest size cap whole answer result long sized first good is_cap is_whole all second answers =
+    let good' : first_bad (header_checks header v.size) ≡ None = (let P : ℕ → Type 0 = λ n. first_bad (header_checks header n) ≡ None in subst P sized good) in
+    let whole' : 64 + length rest ≡ image_size (number_at header 12 4) = all ∙ is_whole ∙ ap (λ n. image_size n) is_cap in
+    (header, long, inr (inr (record { between = u; first = first; good = good'; rest = rest; whole = whole'; answer = answer; second = second; answers = answers })))

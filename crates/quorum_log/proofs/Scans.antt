@@ -3,8 +3,8 @@ use Rattle.std.proofs.Common.{◌≡◌, ◌≢◌, ℕ, ◌+◌, ◌-◌, ◌<�
 use Rattle.quorum_log.specs.declared.found.Found.{Found}
 use Rattle.quorum_log.specs.declared.found.FoundRecord.{FoundRecord}
 use Rattle.quorum_log.specs.Layout.{window, number_at, half_size, half_at, most_record, most_records, version_of, base_of}
-use Rattle.quorum_log.specs.Image.{IsHalf, IsRecord, Listed, commit_behind}
-use Rattle.quorum_log.specs.Checks.{AreLengths, AreRecords, IsGoodSize, IsFoundHalf}
+use Rattle.quorum_log.specs.Image.{IsHalf, IsFramed, Listed, commit_behind}
+use Rattle.quorum_log.specs.Readings.{AreLengths, AreRecords, IsGoodSize, IsFoundHalf}
 use Rattle.quorum_log.proofs.Places.{length-window}
 use Rattle.quorum_log.proofs.Kept.{listed_push, behind-push}
 
@@ -15,7 +15,7 @@ pub scan_next : (image : List ℕ) (end start at count : ℕ) (records records' 
 scan_next image end start at count records records' bytes listed place committed good is_bytes pushed =
     let r : FoundRecord = record { at = at + 5; bytes = bytes } in
     let long : length bytes ≡ count = ap (λ xs. length xs) is_bytes ∙ length-window image (at + 5) count in
-    let one : IsRecord image end at r = record {
+    let one : IsFramed image end at r = record {
       commit = committed;
       place = refl;
       size = good.size_is ∙ sym long;
@@ -24,7 +24,7 @@ scan_next image end start at count records records' bytes listed place committed
       room = omega (arith, good.room);
       bytes = ap (λ n. window image (at + 5) n) long ∙ sym is_bytes;
     } in
-    let here : IsRecord image end (commit_behind start records) r = (let P : ℕ → Type 0 = λ n. IsRecord image end n r in subst P place one) in
+    let here : IsFramed image end (commit_behind start records) r = (let P : ℕ → Type 0 = λ n. IsFramed image end n r in subst P place one) in
     rw pushed (listed_push image end start records r listed here, omega (arith, behind-push start records r), omega (arith, good.room))
 
 pub found_half : (image : List ℕ) (cap half start state_size last_size field generation base version : ℕ) (state last : List ℕ) (records : List FoundRecord)

@@ -12,7 +12,8 @@ use Rattle.quorum_log.specs.declared.found.Found.{Found}
 use Rattle.quorum_log.specs.declared.found.FoundRecord.{FoundRecord}
 use Rattle.quorum_log.specs.Layout.{window, magic, number_at, half_size, half_at, image_size, most_record, most_records, base_of, next_generation}
 use Rattle.quorum_log.specs.Image.{Holds, IsHalf, IsCurrent, Listed, commit_behind, start_of, end_of, other_of, list_at, tail_of}
-use Rattle.quorum_log.specs.Checks.{first_bad, header_checks, halves_checks, length_checks, is_valid, generation_in, is_next, current_half, list_in, HasBadLength, IsBadBehind, IsTooMany, IsBadHalf, HeaderFault, HalvesFault, IsFoundCurrent, IsFoundHalf, AreRecords}
+use Rattle.quorum_log.specs.Checks.{first_bad, header_checks, halves_checks, length_checks, is_valid, generation_in, is_next, current_half, list_in, HasBadLength, IsBadBehind, IsTooMany, IsBadHalf, HeaderFault, HalvesFault}
+use Rattle.quorum_log.specs.Readings.{IsFoundCurrent, IsFoundHalf, AreRecords}
 use Rattle.quorum_log.proofs.Places.{SameWithin, same_number, same_window, within_part}
 use Rattle.quorum_log.proofs.Kept.{holds_by, kept_list, tail_within, behind-le}
 use Rattle.quorum_log.proofs.Appends.{kept_current}
@@ -241,8 +242,7 @@ found_holds image size cap x long commit header is_cap found =
       magic_is = header.name;
       header_version = header.version;
       cap_is = sym is_cap ∙ sym f.cap_is;
-      cap_least = omega (arith, header.cap_least, is_cap, f.cap_is);
-      cap_most = omega (arith, header.cap_most, is_cap, f.cap_is);
+      cap_range = (omega (arith, header.cap_least, is_cap, f.cap_is), omega (arith, header.cap_most, is_cap, f.cap_is));
       whole = omega (arith, long, f.cap_is);
       half = rw f.half_is which;
       fields = rw same_half f.fields;

@@ -8,12 +8,13 @@ use Rattle.disk_core.specs.Views.{DiskView}
 use Rattle.disk_core.specs.Calls.{Step, Made, sync, claim}
 use Rattle.quorum_log.specs.declared.fault.OpenFault.{OpenFault}
 use Rattle.quorum_log.specs.declared.fault.OpenFault.TheVariants as open_faults
+use Rattle.quorum_log.specs.declared.found.Found.{Found}
 use Rattle.quorum_log.specs.Faults.{open_fault}
 use Rattle.quorum_log.specs.Opening.{OpenCalls, ReadsImage}
 use Rattle.quorum_log.proofs.Moments.{step_told}
 use Rattle.quorum_log.proofs.Opened.{taken_ok}
 
-reads_keep : (u w : DiskView) (result : Result ⊤ OpenFault) → ReadsImage u result w → w.current ≡ u.current
+reads_keep : (u w : DiskView) (result : Result Found OpenFault) → ReadsImage u result w → w.current ≡ u.current
 reads_keep u w result reads = elim reads.2 [
   | inl failed ↦ failed.1.current
   | inr read ↦ elim read [
@@ -47,14 +48,14 @@ refused_keeps n v w e told made = elim made [
       ]
 ]
 
-pub opening_keeps : (n : ℕ) (v w : DiskView) (result : Result ⊤ OpenFault) → OpenCalls n v result w → IsTrue v.tells → w.current.seen ≡ v.current.seen
+pub opening_keeps : (n : ℕ) (v w : DiskView) (result : Result Found OpenFault) → OpenCalls n v result w → IsTrue v.tells → w.current.seen ≡ v.current.seen
 opening_keeps n v w result calls told = elim calls [
   | inl went ↦ ap (λ (m : Moment). m.seen) (reads_keep went.0 w result went.2) ∙ (taken_ok n v went.0 tt went.1).seen told
   | inr stopped ↦ refused_keeps n v w stopped.0 told stopped.1
 ]
 
-pub opened_behind_claim : (n : ℕ) (v w : DiskView) → OpenCalls n v (Ok tt) w → v.current.held ≤ n
-opened_behind_claim n v w calls = elim calls [
+pub opened_behind_claim : (n : ℕ) (v w : DiskView) (x : Found) → OpenCalls n v (Ok x) w → v.current.held ≤ n
+opened_behind_claim n v w x calls = elim calls [
   | inl went ↦ (taken_ok n v went.0 tt went.1).held_before
   | inr stopped ↦ absurd (cc (stopped.2))
 ]

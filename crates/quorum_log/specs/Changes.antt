@@ -2,7 +2,7 @@
 use Rattle.std.specs.Prelude.{◌≡◌, ◌≢◌, ℕ, ◌+◌, ◌-◌, ◌⊎◌, Bool, true, false, List, [], ◌∷◌, ◌++◌, length, replicate, slice_index, Result, Ok, Err, ⊤}
 use Rattle.wire_fields.specs.declared.endian.Endian.TheVariants.{Little}
 use Rattle.wire_fields.specs.Numbers.{num}
-use Rattle.disk_core.specs.Images.{Moment, IsImage}
+use Rattle.disk_core.specs.Images.{Moment, EachImage}
 use Rattle.disk_core.specs.Calls.{Call, write, sync}
 use Rattle.quorum_log.specs.declared.found.Found.{Found}
 use Rattle.quorum_log.specs.declared.found.FoundRecord.{FoundRecord}
@@ -10,8 +10,8 @@ use Rattle.quorum_log.specs.Layout.{magic, half_at, second_version, next_generat
 use Rattle.quorum_log.specs.Image.{Holds, other_of, tail_of}
 
 -- A record with its length in front and the next commit byte, which is 0, behind it.
-abbrev pub record_text : List ℕ → List ℕ
-record_text bytes = num Little 4 (length bytes) ++ (bytes ++ 0 ∷ [])
+abbrev pub framed_record : List ℕ → List ℕ
+framed_record bytes = num Little 4 (length bytes) ++ (bytes ++ 0 ∷ [])
 
 -- A half of version 2 without records, from behind its validity byte on.
 abbrev pub half_text : ℕ → ℕ → List ℕ → List ℕ → List ℕ
@@ -43,3 +43,8 @@ closing false token at = []
 -- An image inside `append`, and inside `checkpoint`.
 abbrev pub HoldsEither : Found → Found → List ℕ → Type 0
 HoldsEither x y image = Holds image x ⊎ Holds image y
+
+-- A moment inside `append`, and inside `checkpoint`: the fencing token is still that one, and each image holds
+-- the one log or the other.
+abbrev pub IsInChange : ℕ → Found → Found → Moment → Type 0
+IsInChange held x y m = (m.held ≡ held) × EachImage (HoldsEither x y) m

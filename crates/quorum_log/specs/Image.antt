@@ -15,7 +15,7 @@
 use Rattle.std.specs.Prelude.{◌≡◌, ◌≢◌, ℕ, ◌+◌, ◌-◌, ◌<◌, ◌≤◌, ◌^◌, ◌⊎◌, List, [], ◌∷◌, length, slice_index}
 use Rattle.quorum_log.specs.declared.found.Found.{Found}
 use Rattle.quorum_log.specs.declared.found.FoundRecord.{FoundRecord}
-use Rattle.quorum_log.specs.Layout.{window, number_at, magic, half_size, half_at, image_size, most_record, most_records, version_of, base_of, next_generation}
+use Rattle.quorum_log.specs.Layout.{window, number_at, magic, half_size, half_at, IsCap, image_size, most_record, most_records, version_of, base_of, next_generation}
 
 abbrev pub start_of : Found → ℕ
 start_of x = half_at x.cap x.half
@@ -30,7 +30,7 @@ abbrev pub list_at : Found → ℕ
 list_at x = start_of x + 25 + length x.state + length x.last
 
 -- At this commit byte stands a record that is committed, in a half that ends there.
-pub record IsRecord (image : List ℕ) (end at : ℕ) (r : FoundRecord) : Type 0 where
+pub record IsFramed (image : List ℕ) (end at : ℕ) (r : FoundRecord) : Type 0 where
   pub commit : slice_index image at ≢ 0
   pub place : r.at ≡ at + 5
   pub size : number_at image (at + 1) 4 ≡ length r.bytes
@@ -42,7 +42,7 @@ pub record IsRecord (image : List ℕ) (end at : ℕ) (r : FoundRecord) : Type 0
 -- These records stand one behind the other, from that commit byte on.
 abbrev pub Listed : List ℕ → ℕ → ℕ → List FoundRecord → Type 0
 Listed image end at [] = Unit {0}
-Listed image end at (r ∷ rs) = IsRecord image end at r × Listed image end (at + 5 + length r.bytes) rs
+Listed image end at (r ∷ rs) = IsFramed image end at r × Listed image end (at + 5 + length r.bytes) rs
 
 -- The commit byte behind the records.
 abbrev pub commit_behind : ℕ → List FoundRecord → ℕ
@@ -73,8 +73,7 @@ pub record Holds (image : List ℕ) (x : Found) : Type 0 where
   pub magic_is : window image 1 7 ≡ magic
   pub header_version : (number_at image 8 4 ≡ 1) ⊎ (number_at image 8 4 ≡ 2)
   pub cap_is : number_at image 12 4 ≡ x.cap
-  pub cap_least : 4096 ≤ x.cap
-  pub cap_most : x.cap ≤ 16_777_216
+  pub cap_range : IsCap x.cap
   pub whole : image_size x.cap ≤ length image
   pub half : (x.half ≡ 0) ⊎ (x.half ≡ 1)
   pub fields : IsHalf image (start_of x) x.version x.generation x.base x.state x.last

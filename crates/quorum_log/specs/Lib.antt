@@ -1,6 +1,7 @@
 pub mod Layout
 pub mod Image
 pub mod Checks
+pub mod Readings
 pub mod Faults
 pub mod Logs
 pub mod Opening

@@ -1,11 +1,11 @@
 -- What a log value keeps, and the log for which it stands.
-use Rattle.std.specs.Prelude.{◌≡◌, ℕ, ◌+◌, ◌-◌, ◌<◌, ◌≤◌, ◌⊎◌, Bool, IsTrue, not, ◌==◌, List, [], length, slice_index, Result, Ok, Err, ⊤}
+use Rattle.std.specs.Prelude.{◌≡◌, ℕ, ◌+◌, ◌-◌, ◌<◌, ◌≤◌, ◌⊎◌, Bool, true, IsTrue, not, ◌==◌, List, [], length, slice_index, Result, Ok, Err, ⊤}
 use Rattle.causes.specs.Counts.{Rose}
 use Rattle.disk_core.specs.declared.fault.DiskFault.{DiskFault}
 use Rattle.disk_core.specs.declared.fault.DiskFault.TheVariants as disk_faults
 use Rattle.disk_core.specs.Views.{DiskView}
 use Rattle.quorum_log.specs.declared.found.Found.{Found}
-use Rattle.quorum_log.specs.Layout.{half_size, half_at, most_record, most_records}
+use Rattle.quorum_log.specs.Layout.{half_size, half_at, IsCap, most_record, most_records, next_generation}
 use Rattle.quorum_log.specs.Image.{Holds, tail_of, other_of}
 
 pub record LogValue : Type 0 where
@@ -25,8 +25,7 @@ pub record LogValue : Type 0 where
 
 -- The parts of a log value fit together.
 pub record IsSoundLog (log : LogValue) (buffer : ℕ) : Type 0 where
-  pub cap_least : 4096 ≤ log.cap
-  pub cap_most : log.cap ≤ 16_777_216
+  pub cap_range : IsCap log.cap
   pub half : (log.half ≡ 0) ⊎ (log.half ≡ 1)
   pub tail_least : half_at log.cap log.half ≤ log.tail
   pub tail_most : log.tail < half_at log.cap log.half + half_size log.cap
@@ -36,6 +35,22 @@ pub record IsSoundLog (log : LogValue) (buffer : ℕ) : Type 0 where
 -- A record of that length and the commit byte behind it lie within the half.
 abbrev pub Fits : LogValue → ℕ → Type 0
 Fits log count = log.tail + 5 + count < half_at log.cap log.half + half_size log.cap
+
+-- The log value behind a record of that length.
+abbrev pub appended : LogValue → ℕ → LogValue
+appended log count = record log { records = log.records + 1; tail = log.tail + 5 + count }
+
+-- The log value behind a checkpoint whose state and last record have these lengths.
+abbrev pub begun : LogValue → ℕ → ℕ → LogValue
+begun log state last = record log {
+  half = 1 - log.half;
+  version = 2;
+  generation = next_generation log.generation;
+  base = log.base + log.records;
+  records = 0;
+  tail = half_at log.cap (1 - log.half) + 25 + state + last;
+  other_valid = true;
+}
 
 -- Nothing is pending, the disk tells its content and holds x, and the log value is that of x.
 pub record StandsFor (log : LogValue) (v : DiskView) (x : Found) : Type 0 where
@@ -53,8 +68,7 @@ pub record StandsFor (log : LogValue) (v : DiskView) (x : Found) : Type 0 where
 
 -- The numbers of a log that was found are within their limits, whatever a disk tells.
 pub record IsWithinLimits (x : Found) : Type 0 where
-  pub cap_least : 4096 ≤ x.cap
-  pub cap_most : x.cap ≤ 16_777_216
+  pub cap_range : IsCap x.cap
   pub state_most : length x.state ≤ x.cap
   pub last_most : length x.last ≤ most_record
   pub count : x.base + length x.records ≤ most_records

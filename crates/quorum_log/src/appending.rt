@@ -1,12 +1,12 @@
 //! A record is added to a log.
 ghost use Rattle.std.specs.Prelude.{◌≡◌, ◌+◌, ◌≤◌, ◌<◌, [], ◌∷◌, length, take, Ok, IfOk, IsTrue};
-ghost use Rattle.disk_core.specs.Calls.{Made, write, sync};
+ghost use Rattle.disk_core.specs.Calls.{Made, SameDisk, write, sync};
 ghost use Rattle.disk_core.specs.Views.{Passes};
 ghost use Rattle.quorum_log.specs.declared.found.Found.{Found};
 ghost use Rattle.quorum_log.specs.Layout.{image_size, most_record, most_records};
 ghost use Rattle.quorum_log.specs.Faults.{AnsweredBy, disk_answer};
-ghost use Rattle.quorum_log.specs.Logs.{Fits, StandsFor};
-ghost use Rattle.quorum_log.specs.Changes.{record_text, with_record, HoldsEither};
+ghost use Rattle.quorum_log.specs.Logs.{Fits, StandsFor, appended};
+ghost use Rattle.quorum_log.specs.Changes.{framed_record, with_record, IsInChange};
 
 use crate::fault::AppendFault;
 use crate::log::Log;
@@ -24,10 +24,13 @@ impl Log {
         requires fits { Fits self (length bytes.now) }
         requires few { self.base + self.records < most_records }
         requires disk_size { image_size self.cap ≤ (D.view disk.old).size }
-        ensures any_moment { (x : Found) → StandsFor self (D.view disk.old) x → Passes (HoldsEither x (with_record x bytes.now)) (D.view disk.old) (D.view disk.new) }
+        ensures any_moment { (x : Found) → StandsFor self (D.view disk.old) x → Passes (IsInChange (D.view disk.old).current.held x (with_record x bytes.now)) (D.view disk.old) (D.view disk.new) }
         ensures appended { (x : Found) → StandsFor self (D.view disk.old) x → IfOk result (λ log. StandsFor log (D.view disk.new) (with_record x bytes.now)) }
         ensures answer { AnsweredBy self.claim (D.view disk.old) (disk_answer result) (D.view disk.new) }
-        ensures calls { Made (write self.claim (self.tail + 1) (record_text bytes.now) ∷ sync self.claim ∷ write self.claim self.tail (1 ∷ []) ∷ sync self.claim ∷ []) (D.view disk.old) (disk_answer result) (D.view disk.new) }
+        ensures calls { Made (write self.claim (self.tail + 1) (framed_record bytes.now) ∷ sync self.claim ∷ write self.claim self.tail (1 ∷ []) ∷ sync self.claim ∷ []) (D.view disk.old) (disk_answer result) (D.view disk.new) }
+        ensures value { IfOk result (λ log. log ≡ appended self (length bytes.now)) }
+        ensures held { (D.view disk.new).current.held ≡ (D.view disk.old).current.held }
+        ensures same { SameDisk (D.view disk.old) (D.view disk.new) }
         ensures token { IfOk result (λ log. log.claim ≡ self.claim) }
     {
         let count = bytes.len();
@@ -50,7 +53,7 @@ impl Log {
 fn put_record(buffer: &mut Vec<u8>, bytes: &[u8])
     requires most { length bytes.now ≤ most_record }
     requires room { length bytes.now + 5 ≤ length buffer.old.items }
-    ensures text { take (length bytes.now + 5) buffer.new.items ≡ record_text bytes.now }
+    ensures text { take (length bytes.now + 5) buffer.new.items ≡ framed_record bytes.now }
     ensures size { length buffer.new.items ≡ length buffer.old.items }
 {
     let done = add(buffer, 0, &(bytes.len() as u32).to_le_bytes());

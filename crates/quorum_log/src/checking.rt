@@ -2,6 +2,7 @@
 ghost use Rattle.std.specs.Prelude.{◌≡◌, ◌≢◌, ◌+◌, ◌≤◌, ◌<◌, length, slice_index, MatchResult, None};
 ghost use Rattle.quorum_log.specs.Layout as layout;
 ghost use Rattle.quorum_log.specs.Checks as checks;
+ghost use Rattle.quorum_log.specs.Readings as readings;
 
 use crate::fault::OpenFault;
 use crate::found::{Found, FoundRecord, FoundRecords};
@@ -58,7 +59,7 @@ fn is_next(image: &[u8], cap: u32, half: u8) -> bool
 
 fn check_halves(image: &[u8], cap: u32) -> Result<(), OpenFault>
     requires whole { layout.image_size cap ≤ length image.now }
-    ensures { MatchResult result (λ _. checks.first_bad (checks.halves_checks image.now cap) ≡ None) (checks.BadAt (checks.first_bad (checks.halves_checks image.now cap))) }
+    ensures { MatchResult result (λ _. checks.first_bad (checks.halves_checks image.now cap) ≡ None) (readings.BadAt (checks.first_bad (checks.halves_checks image.now cap))) }
 {
     let first = is_valid(image, cap, 0);
     let second = is_valid(image, cap, 1);
@@ -90,7 +91,7 @@ fn current_half(image: &[u8], cap: u32) -> u8
 /// The lengths of the state and of the last record in the half that begins there.
 fn read_lengths(image: &[u8], cap: u32, start: u64) -> Result<(u64, u64), OpenFault>
     requires { start + 25 ≤ length image.now }
-    ensures { MatchResult result (λ sizes. checks.AreLengths image.now cap start sizes.0 sizes.1) (checks.BadAt (checks.first_bad (checks.length_checks image.now cap start))) }
+    ensures { MatchResult result (λ sizes. readings.AreLengths image.now cap start sizes.0 sizes.1) (readings.BadAt (checks.first_bad (checks.length_checks image.now cap start))) }
 {
     let state = read_u32(image, start + 17);
     if state > cap {
@@ -112,7 +113,7 @@ fn read_records(
 ) -> Result<Vec<FoundRecord>, OpenFault>
     requires room { start < end }
     requires whole { end ≤ length image.now }
-    ensures { MatchResult result (λ records. checks.AreRecords image.now end start records.items) (checks.RecordsFault image.now end start) }
+    ensures { MatchResult result (λ records. readings.AreRecords image.now end start records.items) (readings.RecordsFault image.now end start) }
 {
     let mut records = Vec::new(alloc);
     let mut at = start;
@@ -129,7 +130,7 @@ fn read_records(
 fn record_size(image: &[u8], end: u64, at: u64) -> Result<u64, OpenFault>
     requires room { at < end }
     requires whole { end ≤ length image.now }
-    ensures { MatchResult result (checks.IsGoodSize image.now end at) (checks.SizeFault image.now end at) }
+    ensures { MatchResult result (readings.IsGoodSize image.now end at) (readings.SizeFault image.now end at) }
 {
     if end - at <= 5 {
         return Err(OpenFault::BadImage { place: at + 1 });
@@ -147,7 +148,7 @@ fn read_half(alloc: Global, image: &[u8], cap: u32, half: u8) -> Result<Found, O
     requires cap_most { cap ≤ 16_777_216 }
     requires whole { layout.image_size cap ≤ length image.now }
     requires valid { slice_index image.now (layout.half_at cap half) ≢ 0 }
-    ensures { MatchResult result (checks.IsFoundHalf image.now cap half) (checks.HalfFault image.now cap (layout.half_at cap half)) }
+    ensures { MatchResult result (readings.IsFoundHalf image.now cap half) (readings.HalfFault image.now cap (layout.half_at cap half)) }
 {
     let start = half_at(cap, half);
     let (state_size, last_size) = read_lengths(image, cap, start)?;
@@ -178,7 +179,7 @@ fn read_half(alloc: Global, image: &[u8], cap: u32, half: u8) -> Result<Found, O
 pub(crate) fn read_current(alloc: Global, image: &[u8], cap: u32) -> Result<Found, OpenFault>
     requires cap_most { cap ≤ 16_777_216 }
     requires whole { layout.image_size cap ≤ length image.now }
-    ensures { MatchResult result (checks.IsFoundCurrent image.now cap) (checks.HalvesFault image.now cap) }
+    ensures { MatchResult result (readings.IsFoundCurrent image.now cap) (checks.HalvesFault image.now cap) }
 {
     check_halves(image, cap)?;
     let half = current_half(image, cap);

@@ -1,12 +1,12 @@
 //! A log begins its other half with a new state.
 ghost use Rattle.std.specs.Prelude.{◌≡◌, ◌+◌, ◌-◌, ◌≤◌, ◌<◌, ◌^◌, ◌↔◌, [], ◌∷◌, ◌++◌, length, take, Ok, IfOk, IsTrue};
-ghost use Rattle.disk_core.specs.Calls.{Made, write, sync};
+ghost use Rattle.disk_core.specs.Calls.{Made, SameDisk, write, sync};
 ghost use Rattle.disk_core.specs.Views.{Passes};
 ghost use Rattle.quorum_log.specs.declared.found.Found.{Found};
 ghost use Rattle.quorum_log.specs.Layout.{image_size, half_at, most_record, most_records, next_generation};
 ghost use Rattle.quorum_log.specs.Faults.{AnsweredBy, disk_answer};
-ghost use Rattle.quorum_log.specs.Logs.{StandsFor};
-ghost use Rattle.quorum_log.specs.Changes.{half_text, with_checkpoint, closing, HoldsEither};
+ghost use Rattle.quorum_log.specs.Logs.{StandsFor, begun};
+ghost use Rattle.quorum_log.specs.Changes.{half_text, with_checkpoint, closing, IsInChange};
 
 use crate::fault::AppendFault;
 use crate::layout::{SECOND_VERSION, half_at};
@@ -28,13 +28,16 @@ impl Log {
         requires last { length last.now ≤ most_record }
         requires none { (last.now ≡ []) ↔ (self.base + self.records ≡ 0) }
         requires disk_size { image_size self.cap ≤ (D.view disk.old).size }
-        ensures any_moment { (x : Found) → StandsFor self (D.view disk.old) x → Passes (HoldsEither x (with_checkpoint x state.now last.now)) (D.view disk.old) (D.view disk.new) }
+        ensures any_moment { (x : Found) → StandsFor self (D.view disk.old) x → Passes (IsInChange (D.view disk.old).current.held x (with_checkpoint x state.now last.now)) (D.view disk.old) (D.view disk.new) }
         ensures begun { (x : Found) → StandsFor self (D.view disk.old) x → IfOk result (λ log. StandsFor log (D.view disk.new) (with_checkpoint x state.now last.now)) }
         ensures answer { AnsweredBy self.claim (D.view disk.old) (disk_answer result) (D.view disk.new) }
         ensures calls { let other = half_at self.cap (1 - self.half) in
             Made (closing self.other_valid self.claim other
             ++ write self.claim (other + 1) (half_text (next_generation self.generation) (self.base + self.records) state.now last.now)
             ∷ sync self.claim ∷ write self.claim other (1 ∷ []) ∷ sync self.claim ∷ []) (D.view disk.old) (disk_answer result) (D.view disk.new) }
+        ensures value { IfOk result (λ log. log ≡ begun self (length state.now) (length last.now)) }
+        ensures held { (D.view disk.new).current.held ≡ (D.view disk.old).current.held }
+        ensures same { SameDisk (D.view disk.old) (D.view disk.new) }
         ensures begins { IfOk result (λ log. (log.claim ≡ self.claim) × (log.version ≡ 2)) }
     {
         let half = 1 - self.half;

@@ -1,7 +1,8 @@
 //! An empty log is made.
 ghost use Rattle.std.specs.Prelude.{◌≡◌, ◌+◌, ◌≤◌, [], ◌∷◌, ◌++◌, length, take, Ok, IsOk, IsTrue};
+ghost use Rattle.disk_core.specs.Images.{EachImage};
 ghost use Rattle.disk_core.specs.Views.{Passes};
-ghost use Rattle.disk_core.specs.Calls.{Made, write};
+ghost use Rattle.disk_core.specs.Calls.{Made, SameDisk, write};
 ghost use Rattle.quorum_log.specs.Layout as layout;
 ghost use Rattle.quorum_log.specs.Faults.{AnsweredBy};
 ghost use Rattle.quorum_log.specs.Formats.{front_text, body_calls, renewing, ReadsByte, FormatCalls, IsInFormat, IsFormatted};
@@ -22,14 +23,14 @@ const FRONT: usize = 88;
 ///
 /// Meanwhile a crash leaves no log, the new one, or what it could have left before.
 pub fn format<D: Disk>(disk: &mut D, claim: u32, cap: u32, first: &[u8]) -> Result<(), DiskFault>
-    requires cap_least { 4096 ≤ cap }
-    requires cap_most { cap ≤ 16_777_216 }
+    requires cap { layout.IsCap cap }
     requires first { length first.now ≤ cap }
     requires disk_size { layout.image_size cap ≤ (D.view disk.old).size }
-    ensures any_moment { IsTrue (D.view disk.old).tells → Passes (IsInFormat (D.view disk.old).current cap first.now) (D.view disk.old) (D.view disk.new) }
+    ensures any_moment { IsTrue (D.view disk.old).tells → Passes (EachImage (IsInFormat (D.view disk.old).current cap first.now)) (D.view disk.old) (D.view disk.new) }
     ensures formatted { IsTrue (D.view disk.old).tells → IsOk result → IsFormatted cap first.now (D.view disk.new) }
     ensures claimed { IsOk result → (D.view disk.new).current.held ≡ claim }
     ensures answer { AnsweredBy claim (D.view disk.old) result (D.view disk.new) }
+    ensures same { SameDisk (D.view disk.old) (D.view disk.new) }
     ensures calls { FormatCalls claim cap first.now (D.view disk.old) result (D.view disk.new) }
 {
     make_log(disk, claim, cap, first)

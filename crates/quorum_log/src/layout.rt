@@ -5,11 +5,11 @@ ghost use Rattle.quorum_log.specs.Layout as layout;
 /// The bytes of the header.
 pub(crate) const HEADER: usize = 64;
 
-/// The longest record, in bytes.
-pub(crate) const MOST_RECORD: usize = 57_344;
+/// The longest record of a log, in bytes.
+pub const MOST_RECORD: usize = 57_344;
 
-/// The greatest number of records.
-pub(crate) const MOST_RECORDS: u64 = 9_223_372_036_854_775_807;
+/// The greatest number of records of a log.
+pub const MOST_RECORDS: u64 = 9_223_372_036_854_775_807;
 
 /// What the base field of a half of version 2 has more than the base.
 pub(crate) const SECOND_VERSION: u64 = 9_223_372_036_854_775_808;

@@ -17,6 +17,8 @@ mod writing;
 pub use fault::{AppendFault, OpenFault};
 pub use formatting::format;
 pub use found::{Found, FoundRecord, FoundRecords};
-pub use laws::{held_log_is_good, held_log_is_one, image_has_one_fault};
-pub use layout::image_size;
+pub use laws::{
+    held_log_is_good, held_log_is_one, image_has_one_fault, record_fits_after_checkpoint,
+};
+pub use layout::{MOST_RECORD, MOST_RECORDS, image_size};
 pub use log::Log;

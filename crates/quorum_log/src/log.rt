@@ -55,7 +55,7 @@ impl Model for Log {
 impl Log {
     ghost use Rattle.std.specs.Prelude.{◌≤◌, ◌^◌, IfOk};
     ghost use Rattle.std.specs.Prelude.{length};
-    ghost use Rattle.quorum_log.specs.Layout.{most_records};
+    ghost use Rattle.quorum_log.specs.Layout.{IsCap, most_records};
     ghost use Rattle.quorum_log.specs.Image.{tail_of, end_of};
     ghost use Rattle.quorum_log.specs.Logs.{Fits, log_of};
 
@@ -66,8 +66,7 @@ impl Log {
         found: &Found,
         other_valid: bool,
     ) -> Result<Log, AllocError>
-        requires cap_least { 4096 ≤ found.now.cap }
-        requires cap_most { found.now.cap ≤ 16_777_216 }
+        requires cap { IsCap found.now.cap }
         requires half { found.now.half ≤ 1 }
         requires tail { tail_of found.now < end_of found.now }
         requires end { end_of found.now < 2 ^ 63 }

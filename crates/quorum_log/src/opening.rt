@@ -1,11 +1,11 @@
 //! A log is opened.
-ghost use Rattle.std.specs.Prelude.{◌≡◌, ◌≢◌, ◌+◌, ◌≤◌, ◌<◌, ◌++◌, ℕ, List, length, IfOk, IfErr, IsOk, IsTrue, MatchResult};
-ghost use Rattle.disk_core.specs.Images.{IsImage, Has};
+ghost use Rattle.std.specs.Prelude.{◌≡◌, ◌≢◌, ◌+◌, ◌≤◌, ◌<◌, ◌++◌, ℕ, Bool, List, length, Err, IfOk, IfErr, IsOk, IsTrue, MatchResult};
+ghost use Rattle.disk_core.specs.Images.{Has};
 ghost use Rattle.disk_core.specs.Views.{Passes};
-ghost use Rattle.disk_core.specs.Calls.{ReadStep};
+ghost use Rattle.disk_core.specs.Calls.{ReadStep, SameDisk};
 ghost use Rattle.quorum_log.specs.Layout as layout;
-ghost use Rattle.quorum_log.specs.Logs.{IsWithinLimits, StandsFor};
-ghost use Rattle.quorum_log.specs.Opening.{OpenFails, OpenCalls, OnlyRead, IsRead, ReadFails, ReadsImage, open_answer};
+ghost use Rattle.quorum_log.specs.Logs.{IsWithinLimits, StandsFor, log_of};
+ghost use Rattle.quorum_log.specs.Opening.{OpenFails, OpenCalls, WasRead, IsInOpen, OnlyRead, IsRead, ReadsWhole, ReadFails, ReadsImage, open_answer};
 
 use crate::checking::{check_header, is_valid, read_current};
 use crate::fault::OpenFault;
@@ -23,9 +23,12 @@ impl Log {
         ensures found { IsTrue (D.view disk.old).tells → IfOk result (λ opened. StandsFor opened.0 (D.view disk.new) opened.1) }
         ensures limits { IfOk result (λ opened. IsWithinLimits opened.1) }
         ensures claimed { IfOk result (λ opened. (opened.0.claim ≡ claim) × ((D.view disk.new).current.held ≡ claim)) }
+        ensures value { IfOk result (λ opened. (valid : Bool) × (opened.0 ≡ log_of claim opened.1 valid)) }
+        ensures read { IfOk result (λ opened. WasRead (D.view disk.old) opened.1) }
+        ensures same { SameDisk (D.view disk.old) (D.view disk.new) }
         ensures fault { IfErr result (OpenFails claim (D.view disk.old) (D.view disk.new)) }
         ensures calls { OpenCalls claim (D.view disk.old) (open_answer result) (D.view disk.new) }
-        ensures any_moment { IsTrue (D.view disk.old).tells → Passes (IsImage (D.view disk.old).current) (D.view disk.old) (D.view disk.new) }
+        ensures any_moment { IsTrue (D.view disk.old).tells → Passes (IsInOpen (D.view disk.old).current claim) (D.view disk.old) (D.view disk.new) }
     {
         take_over(disk, claim)?;
         let (image, cap) = read_image(alloc, disk)?;
@@ -39,7 +42,7 @@ impl Log {
 /// Reads the image in two reads, of the header and of what is behind it, and tells the cap.
 fn read_image<D: Disk>(alloc: Global, disk: &mut D) -> Result<(Vec<u8>, u32), OpenFault>
     requires { 64 ≤ (D.view disk.old).size }
-    ensures calls { ReadsImage (D.view disk.old) (open_answer result) (D.view disk.new) }
+    ensures calls { MatchResult result (λ read. ReadsWhole read.0.items (D.view disk.old) (D.view disk.new)) (λ fault. ReadsImage (D.view disk.old) (Err fault) (D.view disk.new)) }
     ensures only_read { OnlyRead (D.view disk.old) (D.view disk.new) }
     ensures image { MatchResult result (λ read. IsRead (D.view disk.old) read.0.items read.1) (ReadFails (D.view disk.old) (D.view disk.new)) }
 {

@@ -22,8 +22,9 @@ returns-in_err-decode_contents-clause-unchanged g c = opening_keeps 1 _ _ _ c.in
 
 pub returns-clause-found : goal.returns-clause-found
 returns-clause-found g c = record {
-  held_before = opened_behind_claim 1 _ _ c.in_ok-found.ensures.calls;
+  held_before = opened_behind_claim 1 _ _ _ c.in_ok-found.ensures.calls;
   held = c.in_ok-found.ensures.claimed.1;
+  read = c.in_ok-found.ensures.read;
   good = λ told. record {
     holds = held_before (g.D.Disk.view c.args.disk.now) (g.D.Disk.view c.open.new.disk) _ c.in_ok-found.found c.in_ok-found.ensures.calls c.in_ok-found.ensures.found told;
     contents = c.in_ok-decode_contents.field-0;

@@ -3,6 +3,7 @@ use Rattle.disk_core.specs.Calls.{Made, write, sync}
 use Rattle.quorum_log.specs.Layout.{half_at, next_generation}
 use Rattle.quorum_log.specs.Faults.{disk_answer}
 use Rattle.quorum_log.specs.Changes.{half_text, closing}
+use Rattle.quorum_log.proofs.CallLaws.{checkpoint_held, made_same}
 use Rattle.quorum_log.proofs.Checkpointed.{checkpoint_valued, made_closing_answer}
 use Rattle.quorum_log.proofs.log.Log.checkpoint.Goals as goal
 
@@ -39,3 +40,15 @@ returns-clause-answer g c =
     let made : Made (closing log.other_valid log.claim other ++ write log.claim (other + 1) (half_text (next_generation log.generation) (log.base + log.records) c.args.state.now c.args.last.now) ∷ sync log.claim ∷ write log.claim other (1 ∷ []) ∷ sync log.claim ∷ [])
     (g.D.Disk.view c.args.disk.now) (disk_answer (Ok log)) (g.D.Disk.view c.replace.new.disk) = search rules in
     made_closing_answer log.other_valid log.claim other _ _ _ _ made
+
+pub returns-in_err-replace-clause-held : goal.returns-in_err-replace-clause-held
+returns-in_err-replace-clause-held g c = checkpoint_held _ _ _ _ _ _ _ c.in_err-replace.ensures
+
+pub returns-in_err-replace-clause-same : goal.returns-in_err-replace-clause-same
+returns-in_err-replace-clause-same g c = made_same _ _ _ _ c.in_err-replace.ensures
+
+pub returns-clause-held : goal.returns-clause-held
+returns-clause-held g c = checkpoint_held _ _ _ _ _ _ _ c.in_ok-replace.ensures
+
+pub returns-clause-same : goal.returns-clause-same
+returns-clause-same g c = made_same _ _ _ _ c.in_ok-replace.ensures

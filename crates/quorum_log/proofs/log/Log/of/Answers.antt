@@ -8,8 +8,7 @@ pub invariant_of-result : goal.invariant_of-result
 invariant_of-result c =
     let x = c.args.found.now in
     record {
-      cap_least = c.requires.cap_least;
-      cap_most = c.requires.cap_most;
+      cap_range = c.requires.cap;
       half = which_half x.half c.requires.half;
       tail_least = omega (arith, c.tail.ensures, behind-le (list_at x) x.records);
       tail_most = omega (arith, c.tail.ensures, c.requires.tail);
