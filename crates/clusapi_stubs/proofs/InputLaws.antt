@@ -1,6 +1,6 @@
 -- Parameters that were read are spelled, and parameters that are spelled are read.
 use Rattle.std.proofs.Common.{◌≡◌, ℕ, List, [], ◌∷◌, ◌++◌, length, drop, Some, Result, Ok, refl, sym, ◌∙◌, subst}
-use Rattle.std.specs.Prelude.{◌==◌, map, if◌then◌else◌}
+use Rattle.std.specs.Prelude.{Option, map}
 use Rattle.std.proofs.lemmas.List.{drop_at}
 use Rattle.wire_fields.specs.Numbers.{IsBytes}
 use Rattle.wire_fields.specs.Reading.{Reading}
@@ -14,6 +14,7 @@ use Rattle.ndr_values.proofs.ValueLaws.{bytes_only, bytes_reads, handle_only, ha
 use Rattle.clusapi_stubs.specs.declared.input.In.{In}
 use Rattle.clusapi_stubs.specs.declared.input.In.TheVariants.{CloseCluster, CloseKey, CreateKey, DeleteKey, DeleteValue, EnumKey, EnumValue, GetClusterName, GetRootKey, OpenCluster, OpenKey, QueryInfoKey, QueryValue, SetValue}
 use Rattle.clusapi_stubs.specs.Inputs.{kinds_of, opnum_of, parameters}
+use Rattle.clusapi_stubs.specs.Parameters.{call_of}
 use Rattle.clusapi_stubs.specs.Kinds.{AHandle, ANumber, APointer, AText, ATime, AnArray, Kind, ReadsAll, value_at, values_at}
 
 abbrev valued : Value → Reading → Result (Value × Reading) NdrFault
@@ -86,39 +87,30 @@ values_only (v ∷ vs) s t r =
 
 -- ---- methods
 
--- The parameters with an operation number say which call it is.
-abbrev input_of : ℕ → List Value → In
-input_of opnum [] = if opnum == 0 then OpenCluster else GetClusterName
-input_of opnum (Number sam ∷ []) = GetRootKey sam
-input_of opnum (Handle handle ∷ []) = if opnum == 1 then CloseCluster handle else if opnum == 37 then CloseKey handle else QueryInfoKey handle
-input_of opnum (Handle handle ∷ Number index ∷ []) = EnumKey handle index
-input_of opnum (Handle handle ∷ Number index ∷ Number cb_data ∷ []) = EnumValue handle index cb_data
-input_of opnum (Handle handle ∷ Text text ∷ []) = if opnum == 33 then DeleteValue handle text else DeleteKey handle text
-input_of opnum (Handle handle ∷ Text text ∷ Number number ∷ []) = if opnum == 30 then OpenKey handle text number else QueryValue handle text number
-input_of opnum (Handle handle ∷ Text text ∷ Number options ∷ Number sam ∷ Number security ∷ []) = CreateKey handle text options sam security
-input_of opnum (Handle handle ∷ Text text ∷ Number kind ∷ Bytes bytes ∷ Number cb_data ∷ []) = SetValue handle text kind bytes cb_data
-input_of opnum _ = OpenCluster
-
-input_back : (input : In) → input_of (opnum_of input) (parameters input) ≡ input
-input_back OpenCluster = refl
-input_back (CloseCluster handle) = refl
-input_back GetClusterName = refl
-input_back (GetRootKey sam) = refl
-input_back (CreateKey handle subkey options sam security) = refl
-input_back (OpenKey handle subkey sam) = refl
-input_back (EnumKey handle index) = refl
-input_back (SetValue handle name kind bytes cb_data) = refl
-input_back (DeleteValue handle name) = refl
-input_back (QueryValue handle name cb_data) = refl
-input_back (DeleteKey handle subkey) = refl
-input_back (EnumValue handle index cb_data) = refl
-input_back (CloseKey handle) = refl
-input_back (QueryInfoKey handle) = refl
+-- A call is told by its operation number and its parameters.
+pub one_call : (input : In) → call_of (opnum_of input) (parameters input) ≡ Some input
+one_call OpenCluster = refl
+one_call (CloseCluster handle) = refl
+one_call GetClusterName = refl
+one_call (GetRootKey sam) = refl
+one_call (CreateKey handle subkey options sam security) = refl
+one_call (OpenKey handle subkey sam) = refl
+one_call (EnumKey handle index) = refl
+one_call (SetValue handle name kind bytes cb_data) = refl
+one_call (DeleteValue handle name) = refl
+one_call (QueryValue handle name cb_data) = refl
+one_call (DeleteKey handle subkey) = refl
+one_call (EnumValue handle index cb_data) = refl
+one_call (CloseKey handle) = refl
+one_call (QueryInfoKey handle) = refl
 
 pub one_input : (a b : In) → opnum_of a ≡ opnum_of b → parameters a ≡ parameters b → a ≡ b
 one_input a b same_number same_values =
-    let same : input_of (opnum_of a) (parameters a) ≡ input_of (opnum_of b) (parameters b) = rw (same_number, same_values) refl in
-    sym (input_back a) ∙ same ∙ input_back b
+    let same : call_of (opnum_of a) (parameters a) ≡ call_of (opnum_of b) (parameters b) = rw (same_number, same_values) refl in
+    both (call_of (opnum_of b) (parameters b)) (sym same ∙ one_call a) (one_call b)
+  where
+    both : (call : Option In) → call ≡ Some a → call ≡ Some b → a ≡ b
+    both call p q = cc
 
 pub kinds_are : (input : In) → kinds_of (opnum_of input) ≡ Some (map kind_of (parameters input))
 kinds_are OpenCluster = refl

@@ -14,8 +14,9 @@ use Rattle.clusapi_stubs.specs.declared.input.In.{In}
 use Rattle.clusapi_stubs.specs.Grammar.{GivesInput, InputBad, IsInput, Spells, TakesInput, sized, start, values_in}
 use Rattle.clusapi_stubs.specs.Inputs.{LackZero, kinds_of, parameters, size_fits}
 use Rattle.clusapi_stubs.specs.Kinds.{Kind, values_at}
+use Rattle.clusapi_stubs.specs.Parameters.{IsReadAs, call_of, input_in}
 use Rattle.clusapi_stubs.proofs.TextLaws.{lack_zero}
-use Rattle.clusapi_stubs.proofs.InputLaws.{kind_of, kinds_are, one_input, values_only, values_read}
+use Rattle.clusapi_stubs.proofs.InputLaws.{kind_of, kinds_are, one_call, one_input, values_only, values_read}
 
 abbrev Read : Type 0
 Read = Result (List Value × Reading) NdrFault
@@ -104,3 +105,22 @@ pub only : (opnum : ℕ) (e : Endian) (stub : List ℕ) (input : In) (now : Read
     → GivesInput (sized input now.place) other
 only opnum e stub input now took other is =
     only_by (size_fits input) input other (now.place - 4) refl (same opnum e stub input other now is.behind took is.spells) is.size
+
+-- ---- the table read backwards
+
+pub is_read : (result expected : Result In InFault) → result ≡ expected → IsReadAs result expected
+is_read (Ok input) expected is = is
+is_read (Err Opnum) expected is = is
+is_read (Err (Ndr fault)) expected is = is
+is_read (Err Memory) expected is = tt
+
+pub reads_sized : (opnum : ℕ) (e : Endian) (stub : List ℕ) (input : In) (now : Reading) → TakesInput opnum (Ok input) (start e stub) now → IsReadAs (sized input now.place) (input_in opnum e stub)
+reads_sized opnum e stub input now took =
+    let call : call_of opnum (parameters input) ≡ Some input = subst (λ (n : ℕ). call_of n (parameters input) ≡ Some input) took.0 (one_call input) in
+    let same : sized input now.place ≡ input_in opnum e stub = rw (took.1, call) refl in
+    is_read (sized input now.place) (input_in opnum e stub) same
+
+pub reads_fault : (opnum : ℕ) (e : Endian) (stub : List ℕ) (fault : InFault) (now : Reading) → TakesInput opnum (Err fault) (start e stub) now → IsReadAs (Err fault) (input_in opnum e stub)
+reads_fault opnum e stub Opnum now took = rw took refl
+reads_fault opnum e stub (Ndr fault) now took = rw took refl
+reads_fault opnum e stub Memory now took = tt

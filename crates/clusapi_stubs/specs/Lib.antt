@@ -2,3 +2,4 @@ pub mod Grammar
 pub mod Inputs
 pub mod Kinds
 pub mod Outputs
+pub mod Parameters

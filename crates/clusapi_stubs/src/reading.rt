@@ -3,6 +3,7 @@
 ghost use Rattle.std.specs.Prelude.{◌≡◌, IfErr, IfOk};
 ghost use Rattle.clusapi_stubs.specs.Inputs.{LackZero, size_fits};
 ghost use Rattle.clusapi_stubs.specs.Grammar.{GivesInput, InputBad, IsInput, TakesInput, sized};
+ghost use Rattle.clusapi_stubs.specs.Parameters.{IsReadAs, input_in};
 ghost use Rattle.clusapi_stubs.specs.declared.input.In.{In};
 
 use crate::fault::InFault;
@@ -20,6 +21,7 @@ const MOST_ASKED: u32 = 1_048_576;
 
 /// The parameters of the method with this operation number. Bytes behind the last one are ignored.
 pub fn read_in(alloc: Global, opnum: u16, endian: Endian, stub: &[u8]) -> Result<In, InFault>
+    ensures read { IsReadAs result (input_in opnum endian stub.now) }
     ensures found { IfOk result (λ input. IsInput opnum endian stub.now input) }
     ensures texts { IfOk result LackZero }
     ensures only { (input : In) → IsInput opnum endian stub.now input → GivesInput result input }
