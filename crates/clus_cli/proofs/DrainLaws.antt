@@ -8,15 +8,13 @@ use Rattle.rpc_calls.specs.declared.side.Side.{Side}
 use Rattle.rpc_calls.specs.declared.side.Side.TheVariants.{Server}
 use Rattle.rpc_calls.specs.Intakes.{AtEnd, Holds, Kept, NextIs, NumbersAre, Stays, no_fault}
 use Rattle.rpc_calls.specs.Streams.{Items}
-use Rattle.rpc_assoc.specs.Association.{AsksFew}
 use Rattle.registry_server.specs.Answers.{answer_to, answers, text_of}
 use Rattle.registry_server.specs.Servers.{ServerState}
 use Rattle.clus_cli.specs.declared.connection.Drained.{Drained}
 use Rattle.clus_cli.specs.declared.connection.Reaction.{Reaction}
 use Rattle.clus_cli.specs.declared.connection.Reaction.TheVariants as reactions
-use Rattle.clus_cli.specs.Connections.{AnswersItem, AreLast, Follows, FollowsSome, IsDrained, Reacts}
+use Rattle.clus_cli.specs.Connections.{AnswersItem, AreLast, Follows, IsDrained, Reacts}
 use Rattle.clus_cli.proofs.AnswerLaws.{answers-item}
-use Rattle.clus_cli.proofs.FewContexts.{last_few}
 
 abbrev pub an_item : Item → Result (Option Item) IntakeFault
 an_item item = Ok (Some item)
@@ -33,11 +31,6 @@ follows_item : (old new : Kept) (item : Item) → NextIs (an_item item) old new 
     → (stream : List ℕ) (given : List Item) → Follows old stream given → Follows new stream (given ++ item ∷ [])
 follows_item old new item next stays stream given follows =
     record { holds = next stream given follows.holds; server = stays.side ∙ follows.server }
-
-pub item_few : (old new : Kept) (item : Item) → FollowsSome old → NextIs (an_item item) old new → AsksFew item
-item_few old new item (stream, given, follows) next =
-    let holds : Holds new stream (given ++ item ∷ []) = next stream given follows.holds in
-    last_few new.side holds.frames given item new.left holds.reads.runs
 
 pub reacts_item : (old new : Kept) (item : Item) (before now : ServerState) (reaction : Reaction) → NextIs (an_item item) old new → Stays old new
     → AnswersItem before item now reaction → (stream : List ℕ) (given : List Item) → Follows old stream given → Reacts stream given before new now reaction
@@ -89,12 +82,6 @@ begins kept s stream given follows = record {
   replies = refl;
   state = refl;
 }
-
-pub still_some : (old : Kept) (before : ServerState) (kept : Kept) (now : ServerState) (text : List ℕ) → FollowsSome old
-    → Carries old before kept now text → FollowsSome kept
-still_some old before kept now text (stream, given, follows) carries =
-    let so_far = carries stream given follows in
-    (stream, given ++ so_far.more, so_far.follows)
 
 -- What the reaction says, at any stream.
 abbrev pub ReactsAny : Kept → ServerState → Kept → ServerState → Reaction → Type 0

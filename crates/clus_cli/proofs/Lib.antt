@@ -2,7 +2,6 @@ pub mod AnswerLaws
 pub mod BadLogs
 pub mod DoorLaws
 pub mod DrainLaws
-pub mod FewContexts
 pub mod NumberLaws
 pub mod OpenLaws
 pub mod ServeLaws

@@ -12,7 +12,7 @@ use Rattle.rpc_calls.specs.Streams.{Items, Reads, Runs}
 use Rattle.registry_server.specs.Answers.{answers}
 use Rattle.registry_server.specs.Servers.{ServerState}
 use Rattle.clus_cli.specs.declared.connection.Drained.{Drained}
-use Rattle.clus_cli.specs.Connections.{AreAll, AreLast, Follows, FollowsSome}
+use Rattle.clus_cli.specs.Connections.{AreAll, AreLast, Follows}
 use Rattle.clus_cli.specs.Pieces.{IsEnd, IsFed}
 use Rattle.clus_cli.specs.Session.{AreFirst, IsWhole, most_stream, piece_length}
 use Rattle.clus_cli.proofs.AnswerLaws.{answers-append}
@@ -58,9 +58,6 @@ starts origin link holds linked = record {
     waiting = record { frames = []; leave = record { left = no_call; rest = []; reads = nothing_read; bytes = refl; stub = refl }; stops = tt };
   };
 }
-
-pub some_stream : (origin : ServerState) (link : Link) (kept : Kept) (s : ServerState) (taken : ℕ) → Serving origin link kept s taken → FollowsSome kept
-some_stream origin link kept s taken serving = (serving.stream, serving.given, serving.follows)
 
 -- A piece more.
 abbrev pub TakesMore : Link → Link → List ℕ → Type 0

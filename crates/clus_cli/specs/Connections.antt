@@ -16,9 +16,6 @@ pub record Follows (kept : Kept) (stream : List ℕ) (given : List Item) : Type 
   pub holds : Holds kept stream given
   pub server : kept.side ≡ Server
 
-abbrev pub FollowsSome : Kept → Type 0
-FollowsSome kept = (stream : List ℕ) × (given : List Item) × Follows kept stream given
-
 -- They are all items of the stream, which has no fault, and the number tells how many bytes wait behind them.
 pub record AreAll (kept : Kept) (stream : List ℕ) (given : List Item) : Type 0 where
   pub items : Items Server stream given no_fault

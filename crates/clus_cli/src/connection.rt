@@ -3,8 +3,8 @@
 ghost use Rattle.std.specs.Prelude.{◌≡◌, ◌<◌, List, ℕ, IfOk};
 ghost use Rattle.rpc_calls.specs.declared.item.Item.{Item};
 ghost use Rattle.rpc_calls.specs.Intakes.{Stays};
-ghost use Rattle.rpc_assoc.specs.Association.{AsksFew};
-ghost use Rattle.clus_cli.specs.Connections.{AnswersItem, Follows, FollowsSome, IsDrained, Reacts, Shortens};
+ghost use Rattle.rpc_calls.specs.Parts.{ItemFits};
+ghost use Rattle.clus_cli.specs.Connections.{AnswersItem, Follows, IsDrained, Reacts, Shortens};
 
 use registry_server::Server;
 use rpc_calls::{Intake, IntakeFault, Item};
@@ -39,7 +39,6 @@ pub(crate) fn drain(
     intake: &mut Intake,
     server: &mut Server,
 ) -> Result<Drained, AllocError>
-    requires { FollowsSome intake.old }
     ensures drained { IfOk result (λ drained. (stream : List ℕ) (given : List Item) → Follows intake.old stream given
         → IsDrained stream given server.old intake.new server.new drained) }
     ensures stays { Stays intake.old intake.new }
@@ -63,7 +62,6 @@ pub(crate) fn drain(
 
 /// Answers the next item.
 fn react(intake: &mut Intake, server: &mut Server) -> Reaction
-    requires { FollowsSome intake.old }
     ensures reacts { (stream : List ℕ) (given : List Item) → Follows intake.old stream given
         → Reacts stream given server.old intake.new server.new result }
     ensures stays { Stays intake.old intake.new }
@@ -80,7 +78,7 @@ fn react(intake: &mut Intake, server: &mut Server) -> Reaction
 }
 
 fn answer(server: &mut Server, item: Item) -> Reaction
-    requires { AsksFew item }
+    requires { ItemFits item }
     ensures { AnswersItem server.old item server.new result }
 {
     match server.answer(item) {

@@ -10,10 +10,10 @@ use Rattle.std.proofs.lemmas.Bool.Decides.{nat_tests}
 use Rattle.std.proofs.lemmas.List.Elements.{All-append, All-nil, All-cons}
 use Rattle.std.proofs.lemmas.List.{take_all}
 use Rattle.ndr_values.specs.Text.{text_of}
-use Rattle.clusapi_stubs.specs.Outputs.{IsText}
 use Rattle.registry_defs.specs.Keys.{ValueData}
 use Rattle.clus_registry.specs.Found.{type_and_data}
 use Rattle.clusapi_methods.specs.Results.{node_name, text_in, units_in}
+use Rattle.clusapi_methods.specs.Sizes.{IsShortText}
 
 some : (n : ℕ) → 0 < n → (n == 0) ≡ false
 some n h = grind (arith, nat_tests)
@@ -83,13 +83,15 @@ text_shorter : (units : List ℕ) → IsShorter units (text_of units)
 text_shorter [] = omega arith
 text_shorter (unit ∷ units) = shorter_more unit units (unit == 0) refl (text_shorter units)
 
-units_shorter : (bytes : List ℕ) → length (units_in bytes) ≤ length bytes
+units_shorter : (bytes : List ℕ) → length (units_in bytes) + length (units_in bytes) ≤ length bytes
 units_shorter [] = omega arith
 units_shorter (byte ∷ []) = omega arith
 units_shorter (low ∷ high ∷ bytes) = omega (arith, units_shorter bytes)
 
-pub data_text : (bytes : List ℕ) → length bytes ≤ 49152 → IsText (text_of (units_in bytes))
-data_text bytes short = record { units = text_units (units_in bytes); short = omega (arith, short, text_shorter (units_in bytes), units_shorter bytes) }
+pub data_text : (bytes : List ℕ) → length bytes ≤ 49152 → IsShortText (text_of (units_in bytes))
+data_text bytes short =
+    let few : length (text_of (units_in bytes)) ≤ 24576 = omega (arith, short, text_shorter (units_in bytes), units_shorter bytes) in
+    record { text = record { units = text_units (units_in bytes); short = omega (arith, few) }; few = few }
 
 pub text_told : (o : Option ValueData) (kind : ℕ) (bytes : List ℕ) → option_map type_and_data o ≡ Some (kind, bytes) → text_of (units_in bytes) ≡ text_in o
 text_told None kind bytes is = absurd cc
@@ -130,7 +132,8 @@ node_units : (node : ℕ) → node < 2 ^ 16 → NotZeros (codes "NODE" ++ decima
 node_units node small =
     All-append (λ unit. unit ≢ 0) (codes "NODE") (decimal node) letters_there (digits_there (decimal node) (decimal_is_IsNumeral node (omega (arith, small))).0.1)
 
-pub node_text : (node : ℕ) → node < 2 ^ 16 → IsText (node_name node)
+pub node_text : (node : ℕ) → node < 2 ^ 16 → IsShortText (node_name node)
 node_text node small =
     let few : length (decimal node) ≤ 5 = length-decimal-le 5 node (omega arith) (omega (arith, small)) (omega (arith, small)) in
-    record { units = node_units node small; short = omega (arith, few, length-append (codes "NODE") (decimal node)) }
+    let short : length (node_name node) ≤ 9 = omega (arith, few, length-append (codes "NODE") (decimal node)) in
+    record { text = record { units = node_units node small; short = omega (arith, short) }; few = omega (arith, short) }

@@ -15,6 +15,11 @@ fault_status reading.Opnum = Some 0x1C010002
 fault_status (reading.Ndr fault) = Some 1783
 fault_status reading.Memory = None
 
+-- The same where memory did not run out: nca_op_rng_error where no method has the number, and else bad stub data.
+abbrev pub stub_status : InFault → ℕ
+stub_status reading.Opnum = 0x1C010002
+stub_status fault = 1783
+
 -- The handle of a call, and what it must have been opened on.
 abbrev pub handle_in : In → Option (Kind × WireHandle)
 handle_in (CloseCluster handle) = Some (Cluster, handle)

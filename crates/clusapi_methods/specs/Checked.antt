@@ -1,8 +1,8 @@
 -- What the checks of a subkey and of a value's name give.
 use Rattle.std.specs.Prelude.{◌≡◌, ℕ, ◌<◌, ◌≤◌, List, ◌++◌, length, Option, None, Some, Result, Ok, Err}
 use Rattle.clus_names.specs.Parts.{parts_of, text_of}
-use Rattle.clusapi_stubs.specs.Outputs.{IsText}
 use Rattle.clusapi_methods.specs.Arguments.{name_refusal, subkey_refusal}
+use Rattle.clusapi_methods.specs.Sizes.{IsShortText}
 
 -- The subkey fits behind the path of the key.
 pub record IsFit (key : List (List ℕ)) (subkey : List ℕ) (path : List (List ℕ)) : Type 0 where
@@ -25,5 +25,5 @@ IsWithin key below (Err status) = (1023 < length (text_of (key ++ below))) × (s
 
 -- A name and data as a registry keeps them.
 pub record IsTold (name bytes : List ℕ) : Type 0 where
-  pub text : IsText name
+  pub text : IsShortText name
   pub short : length bytes ≤ 49152

@@ -11,11 +11,12 @@ use Rattle.context_handles.specs.declared.held.Kind.TheVariants.{Key}
 use Rattle.clusapi_stubs.specs.declared.input.In.{In}
 use Rattle.clusapi_stubs.specs.declared.input.In.TheVariants as call
 use Rattle.clusapi_stubs.specs.declared.output.Out.{Out}
-use Rattle.clusapi_stubs.specs.declared.output.Out.TheVariants.{CloseCluster, CloseKey, CreateKey, GetRootKey, OpenCluster, OpenKey}
+use Rattle.clusapi_stubs.specs.declared.output.Out.TheVariants.{CloseCluster, CloseKey, CreateKey, DeleteKey, DeleteValue, GetRootKey, OpenCluster, OpenKey, SetValue}
+use Rattle.clusapi_stubs.specs.Inputs.{opnum_of}
 use Rattle.clusapi_stubs.specs.Outputs.{CanSpell}
 use Rattle.clusapi_methods.specs.declared.planned.Planned.{Planned}
 use Rattle.clusapi_methods.specs.declared.planned.Planned.TheVariants.{Answer, Close, Fault, Open, Send}
-use Rattle.clusapi_methods.specs.Refusals.{null_handle, refused}
+use Rattle.clusapi_methods.specs.Refusals.{null_handle}
 
 -- A Create that was made opens a handle on its key, whether it made the key or found it.
 abbrev pub opened_by : Update → Outcome → Option Held
@@ -27,10 +28,16 @@ abbrev pub created : Outcome → Option WireHandle → Out
 created outcome None = CreateKey 0 outcome.status 0 null_handle
 created outcome (Some handle) = CreateKey outcome.disposition 0 0 handle
 
--- The results of a call that updates. But for a key that was created they are the statuses alone.
+-- The results of a call that updates, by its operation number. But for a key that was created they are the statuses alone.
+abbrev pub finished_as : ℕ → Outcome → Option WireHandle → Out
+finished_as opnum outcome opened =
+    if opnum == 29 then created outcome opened
+    else if opnum == 32 then SetValue 0 outcome.status
+    else if opnum == 33 then DeleteValue 0 outcome.status
+    else DeleteKey 0 outcome.status
+
 abbrev pub finished : In → Outcome → Option WireHandle → Out
-finished (call.CreateKey handle subkey options sam security) outcome opened = created outcome opened
-finished input outcome opened = refused outcome.status input
+finished input outcome opened = finished_as (opnum_of input) outcome opened
 
 -- A call that updates, with a handle exactly where it is CreateKey and was made.
 abbrev pub IsFinishable : In → Outcome → Option WireHandle → Type 0

@@ -5,3 +5,4 @@ pub mod Refusals
 pub mod Results
 pub mod Plans
 pub mod Finishing
+pub mod Sizes

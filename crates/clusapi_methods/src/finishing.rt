@@ -3,7 +3,8 @@
 ghost use Rattle.std.specs.Prelude.{◌≡◌, IfOk};
 ghost use Rattle.update_records.specs.Validity.{IsValid};
 ghost use Rattle.clusapi_stubs.specs.Outputs.{CanSpell};
-ghost use Rattle.clusapi_methods.specs.Finishing.{IsFinishable, closed_as, created, finished, opened_as, opened_by};
+ghost use Rattle.clusapi_methods.specs.Finishing.{IsFinishable, closed_as, created, finished, finished_as, opened_as, opened_by};
+ghost use Rattle.clusapi_methods.specs.Sizes.{IsShort};
 
 use crate::arguments::joined;
 use crate::refusals::null_handle;
@@ -39,19 +40,34 @@ pub fn finish(input: &In, outcome: &Outcome, handle: Option<WireHandle>) -> Out
     requires { IsFinishable input.now outcome.now handle }
     ensures results { result ≡ finished input.now outcome.now handle }
     ensures encoding { CanSpell result }
+    ensures short { IsShort result }
+{
+    match input {
+        In::CreateKey { .. } => finished(29, outcome, handle),
+        In::SetValue { .. } => finished(32, outcome, handle),
+        In::DeleteValue { .. } => finished(33, outcome, handle),
+        // No other call updates.
+        _ => finished(35, outcome, handle),
+    }
+}
+
+/// The same for a method that updates, by its operation number.
+pub fn finished(opnum: u16, outcome: &Outcome, handle: Option<WireHandle>) -> Out
+    ensures results { result ≡ finished_as opnum outcome.now handle }
+    ensures encoding { CanSpell result }
+    ensures short { IsShort result }
 {
     let status = outcome.status;
-    match input {
-        In::CreateKey { .. } => created(outcome, handle),
-        In::SetValue { .. } => Out::SetValue {
+    match opnum {
+        29 => created(outcome, handle),
+        32 => Out::SetValue {
             rpc_status: 0,
             status,
         },
-        In::DeleteValue { .. } => Out::DeleteValue {
+        33 => Out::DeleteValue {
             rpc_status: 0,
             status,
         },
-        // No other call updates.
         _ => Out::DeleteKey {
             rpc_status: 0,
             status,
@@ -62,6 +78,7 @@ pub fn finish(input: &In, outcome: &Outcome, handle: Option<WireHandle>) -> Out
 fn created(outcome: &Outcome, handle: Option<WireHandle>) -> Out
     ensures results { result ≡ created outcome.now handle }
     ensures encoding { CanSpell result }
+    ensures short { IsShort result }
 {
     match handle {
         Some(handle) => Out::CreateKey {
@@ -83,6 +100,7 @@ fn created(outcome: &Outcome, handle: Option<WireHandle>) -> Out
 pub fn opened(opnum: u16, handle: WireHandle) -> Out
     ensures results { result ≡ opened_as opnum handle }
     ensures encoding { CanSpell result }
+    ensures short { IsShort result }
 {
     match opnum {
         0 => Out::OpenCluster { status: 0, handle },
@@ -103,6 +121,7 @@ pub fn opened(opnum: u16, handle: WireHandle) -> Out
 pub fn closed(opnum: u16) -> Out
     ensures results { result ≡ closed_as opnum }
     ensures encoding { CanSpell result }
+    ensures short { IsShort result }
 {
     let handle = null_handle();
     match opnum {

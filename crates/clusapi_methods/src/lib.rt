@@ -19,6 +19,6 @@ mod updating;
 
 pub use clusapi_stubs::{In, InFault, Out, read_in, write_out};
 pub use fault::fault_status;
-pub use finishing::{closed, finish, opened, opened_by};
+pub use finishing::{closed, finish, finished, opened, opened_by};
 pub use planned::Planned;
 pub use planning::plan;

@@ -1,10 +1,10 @@
 //! The names of the cluster and of a node.
 
 ghost use Rattle.std.specs.Prelude.{◌≡◌, codes, IfOk};
-ghost use Rattle.clusapi_stubs.specs.Outputs.{IsText};
 ghost use Rattle.ndr_values.specs.Text.{text_of};
 ghost use Rattle.registry_defs.specs.Contents.{keys_in};
 ghost use Rattle.clusapi_methods.specs.Results.{cluster_name, node_name, units_in};
+ghost use Rattle.clusapi_methods.specs.Sizes.{IsShortText};
 
 use clus_names::{Name, Path, Units};
 use clus_registry::Registry;
@@ -13,7 +13,7 @@ use std::alloc::{AllocError, Global};
 /// The name of the cluster, which is empty where the registry tells none.
 pub(crate) fn cluster_name(alloc: Global, registry: &Registry) -> Result<Units, AllocError>
     ensures name { IfOk result (λ name. name ≡ cluster_name (keys_in registry.now)) }
-    ensures text { IfOk result IsText }
+    ensures text { IfOk result IsShortText }
 {
     let name = cluster_value(alloc)?;
     match registry.value(&Path::root(alloc), &name) {
@@ -51,7 +51,7 @@ fn text_in(alloc: Global, bytes: &[u8]) -> Result<Vec<u16>, AllocError>
 /// The name of the node with this number.
 pub(crate) fn node_name(alloc: Global, node: u16) -> Result<Units, AllocError>
     ensures name { IfOk result (λ name. name ≡ node_name node) }
-    ensures text { IfOk result IsText }
+    ensures text { IfOk result IsShortText }
 {
     let name = format!(in alloc; "NODE{node}")?;
     Ok(Units::new(units_of(alloc, name.as_bytes())?))

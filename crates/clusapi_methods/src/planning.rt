@@ -6,6 +6,7 @@ ghost use Rattle.clusapi_methods.specs.declared.planned.Planned.TheVariants.{Ope
 ghost use Rattle.clusapi_methods.specs.Calls.{TextLacksZero};
 ghost use Rattle.clusapi_methods.specs.Finishing.{CanFollow, IsFor};
 ghost use Rattle.clusapi_methods.specs.Plans.{planned_at, planned_for, root_as};
+ghost use Rattle.clusapi_methods.specs.Sizes.{FollowsBounded, IsShortFor};
 
 use crate::handles::{find, handle_in, root_as};
 use crate::planned::Planned;
@@ -30,6 +31,8 @@ pub fn plan(
     ensures planned { IfOk result (λ planned. planned ≡ planned_for input.now handles.now group (option_map (λ kept. keys_in kept.now) registry.entry)) }
     ensures follows { IfOk result CanFollow }
     ensures update { IfOk result (IsFor input.now) }
+    // A call that `read_in` gives has a size that fits.
+    ensures short { IfOk result (IsShortFor input.now) }
 {
     let node = handles.node();
     match handle_in(input) {
@@ -52,6 +55,22 @@ fn perform(
     requires text { TextLacksZero input.now }
     ensures planned { IfOk result (λ planned. planned ≡ planned_at (Some held.now) input.now node (option_map (λ kept. keys_in kept.now) registry.entry)) }
     ensures follows { IfOk result CanFollow }
+    ensures short { IfOk result (IsShortFor input.now) }
+{
+    by_method(alloc, input, held, node, registry)
+}
+
+/// The same, by the method.
+fn by_method(
+    alloc: Global,
+    input: &In,
+    held: &Held,
+    node: u16,
+    registry: Option<&Registry>,
+) -> Result<Planned, AllocError>
+    requires text { TextLacksZero input.now }
+    ensures planned { IfOk result (λ planned. planned ≡ planned_at (Some held.now) input.now node (option_map (λ kept. keys_in kept.now) registry.entry)) }
+    ensures bounded { IfOk result FollowsBounded }
 {
     match input {
         In::OpenCluster => Ok(opened(alloc, 0, Kind::Cluster)),
@@ -93,7 +112,7 @@ fn perform(
 /// A new handle on the cluster or on its root key.
 fn opened(alloc: Global, opnum: u16, kind: Kind) -> Planned
     ensures planned { result ≡ Open opnum (root_as kind) false }
-    ensures follows { CanFollow result }
+    ensures bounded { FollowsBounded result }
 {
     Planned::Open {
         opnum,

@@ -10,9 +10,9 @@ ghost use Rattle.registry_defs.specs.Keys.{key_at};
 ghost use Rattle.registry_defs.specs.Readings.{info_at, nth_subkey, nth_value, value_in};
 ghost use Rattle.clusapi_methods.specs.declared.planned.Planned.TheVariants.{Answer};
 ghost use Rattle.clusapi_methods.specs.Arguments.{name_refusal, subkey_refusal};
-ghost use Rattle.clusapi_methods.specs.Finishing.{CanFollow};
 ghost use Rattle.clusapi_methods.specs.Plans.{if_open, opened_below, told, unless_refused};
 ghost use Rattle.clusapi_methods.specs.Results.{entry_told, info_told, key_told, names_told, value_told};
+ghost use Rattle.clusapi_methods.specs.Sizes.{FollowsBounded};
 
 use crate::arguments::{joined, name, subkey};
 use crate::names::{cluster_name, node_name};
@@ -45,7 +45,7 @@ pub(crate) fn enum_key(
     registry: Option<&Registry>,
 ) -> Result<Planned, AllocError>
     ensures planned { IfOk result (λ planned. planned ≡ told (option_map (λ kept. keys_in kept.now) registry.entry) held.now input.now (λ keys. key_told input.now (nth_subkey (folded_parts held.now.path) index keys))) }
-    ensures follows { IfOk result CanFollow }
+    ensures bounded { IfOk result FollowsBounded }
 {
     let Some(registry) = registry else {
         return refuse(alloc, NOT_READY, input, false);
@@ -72,7 +72,7 @@ pub(crate) fn query_value(
 ) -> Result<Planned, AllocError>
     requires { LacksZero text.now }
     ensures planned { IfOk result (λ planned. planned ≡ unless_refused (name_refusal text.now) input.now (told (option_map (λ kept. keys_in kept.now) registry.entry) held.now input.now (λ keys. value_told input.now cb_data (value_in (folded_parts held.now.path) (folded text.now) keys)))) }
-    ensures follows { IfOk result CanFollow }
+    ensures bounded { IfOk result FollowsBounded }
 {
     let Some(name) = name(alloc, text)? else {
         return refuse(alloc, INVALID_PARAMETER, input, false);
@@ -102,7 +102,7 @@ pub(crate) fn enum_value(
     registry: Option<&Registry>,
 ) -> Result<Planned, AllocError>
     ensures planned { IfOk result (λ planned. planned ≡ told (option_map (λ kept. keys_in kept.now) registry.entry) held.now input.now (λ keys. entry_told input.now cb_data (nth_value (folded_parts held.now.path) index keys))) }
-    ensures follows { IfOk result CanFollow }
+    ensures bounded { IfOk result FollowsBounded }
 {
     let Some(registry) = registry else {
         return refuse(alloc, NOT_READY, input, false);
@@ -126,7 +126,7 @@ pub(crate) fn query_info_key(
     registry: Option<&Registry>,
 ) -> Result<Planned, AllocError>
     ensures planned { IfOk result (λ planned. planned ≡ told (option_map (λ kept. keys_in kept.now) registry.entry) held.now input.now (λ keys. info_told input.now (info_at (folded_parts held.now.path) keys))) }
-    ensures follows { IfOk result CanFollow }
+    ensures bounded { IfOk result FollowsBounded }
 {
     let Some(registry) = registry else {
         return refuse(alloc, NOT_READY, input, false);
@@ -152,7 +152,7 @@ pub(crate) fn open_key(
 ) -> Result<Planned, AllocError>
     requires { LacksZero below.now }
     ensures planned { IfOk result (λ planned. planned ≡ unless_refused (subkey_refusal held.now.path below.now) input.now (if_open (option_map (λ kept. keys_in kept.now) registry.entry) input.now (λ keys. opened_below held.now keys input.now (held.now.path ++ parts_of below.now)))) }
-    ensures follows { IfOk result CanFollow }
+    ensures bounded { IfOk result FollowsBounded }
 {
     let below = match subkey(alloc, &held.path, below)? {
         Ok(path) => path,
@@ -186,7 +186,7 @@ pub(crate) fn cluster_names(
     registry: Option<&Registry>,
 ) -> Result<Planned, AllocError>
     ensures planned { IfOk result (λ planned. planned ≡ if_open (option_map (λ kept. keys_in kept.now) registry.entry) input.now (λ keys. Answer (names_told node keys) true)) }
-    ensures follows { IfOk result CanFollow }
+    ensures bounded { IfOk result FollowsBounded }
 {
     let Some(registry) = registry else {
         return refuse(alloc, NOT_READY, input, false);

@@ -1,10 +1,9 @@
 //! Calls that are answered by a status other than 0.
 
 ghost use Rattle.std.specs.Prelude.{◌≡◌, IfOk, replicate};
-ghost use Rattle.clusapi_stubs.specs.Outputs.{CanSpell};
 ghost use Rattle.clusapi_methods.specs.declared.planned.Planned.TheVariants.{Answer};
-ghost use Rattle.clusapi_methods.specs.Finishing.{CanFollow};
 ghost use Rattle.clusapi_methods.specs.Refusals.{null_handle, refused};
+ghost use Rattle.clusapi_methods.specs.Sizes.{FollowsBounded, IsBounded};
 
 use crate::planned::Planned;
 use clusapi_stubs::{In, Out};
@@ -30,7 +29,7 @@ pub(crate) fn refuse(
     reads: bool,
 ) -> Result<Planned, AllocError>
     ensures planned { IfOk result (λ planned. planned ≡ Answer (refused status input.now) reads) }
-    ensures follows { IfOk result CanFollow }
+    ensures bounded { IfOk result FollowsBounded }
 {
     Ok(Planned::Answer {
         out: refused(alloc, status, input)?,
@@ -40,7 +39,7 @@ pub(crate) fn refuse(
 
 fn refused(alloc: Global, status: u32, input: &In) -> Result<Out, AllocError>
     ensures results { IfOk result (λ out. out ≡ refused status input.now) }
-    ensures encoding { IfOk result CanSpell }
+    ensures bounded { IfOk result IsBounded }
 {
     let handle = null_handle();
     Ok(match input {

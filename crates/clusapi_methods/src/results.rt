@@ -1,10 +1,10 @@
 //! The results of the methods that read, from what is found in the registry.
 
 ghost use Rattle.std.specs.Prelude.{◌≡◌, ◌-◌, ◌≤◌, ◌++◌, IfOk, Some, length, replicate};
-ghost use Rattle.clusapi_stubs.specs.Outputs.{CanSpell, IsText};
 ghost use Rattle.clusapi_stubs.specs.declared.output.Out.TheVariants.{EnumKey};
 ghost use Rattle.clusapi_methods.specs.Checked.{IsTold};
 ghost use Rattle.clusapi_methods.specs.Results.{entry_out, info_out, value_out};
+ghost use Rattle.clusapi_methods.specs.Sizes.{IsBounded, IsShortText};
 
 use crate::refusals::zeros;
 use crate::statuses::MORE_DATA;
@@ -15,9 +15,9 @@ use std::alloc::{AllocError, Global};
 use wire_fields::Octets;
 
 pub(crate) fn key(alloc: Global, name: &[u16], written: u64) -> Result<Out, AllocError>
-    requires { IsText name.now }
+    requires { IsShortText name.now }
     ensures results { IfOk result (λ out. out ≡ EnumKey (Some name.now) written 0 0) }
-    ensures encoding { IfOk result CanSpell }
+    ensures bounded { IfOk result IsBounded }
 {
     Ok(Out::EnumKey {
         name: Some(Units::new(name.to_vec(alloc)?)),
@@ -31,7 +31,7 @@ pub(crate) fn key(alloc: Global, name: &[u16], written: u64) -> Result<Out, Allo
 pub(crate) fn value(alloc: Global, kind: u32, bytes: &[u8], cb_data: u32) -> Result<Out, AllocError>
     requires { length bytes.now ≤ 49152 }
     ensures results { IfOk result (λ out. out ≡ value_out kind bytes.now cb_data) }
-    ensures encoding { IfOk result CanSpell }
+    ensures bounded { IfOk result IsBounded }
 {
     let required = bytes.len() as u32;
     if cb_data < required {
@@ -71,7 +71,7 @@ pub(crate) fn named_value(
 ) -> Result<Out, AllocError>
     requires { IsTold name.now bytes.now }
     ensures results { IfOk result (λ out. out ≡ entry_out name.now kind bytes.now cb_data) }
-    ensures encoding { IfOk result CanSpell }
+    ensures bounded { IfOk result IsBounded }
 {
     let name = Some(Units::new(name.to_vec(alloc)?));
     let total = bytes.len() as u32;

@@ -7,8 +7,8 @@ ghost use Rattle.update_records.specs.declared.update.Update.TheVariants as upda
 ghost use Rattle.registry_defs.specs.Contents.{keys_in};
 ghost use Rattle.clusapi_methods.specs.declared.planned.Planned.TheVariants.{Send};
 ghost use Rattle.clusapi_methods.specs.Arguments.{invalid_if, is_volatile, name_refusal, or_else, subkey_refusal};
-ghost use Rattle.clusapi_methods.specs.Finishing.{CanFollow};
 ghost use Rattle.clusapi_methods.specs.Plans.{if_open, unless_refused};
+ghost use Rattle.clusapi_methods.specs.Sizes.{FollowsBounded};
 
 use crate::arguments::{name, subkey};
 use crate::planned::Planned;
@@ -37,7 +37,7 @@ pub(crate) fn create_key(
 ) -> Result<Planned, AllocError>
     requires { LacksZero below.now }
     ensures planned { IfOk result (λ planned. planned ≡ unless_refused (or_else (subkey_refusal held.now.path below.now) (invalid_if (is_volatile options))) input.now (if_open (option_map (λ kept. keys_in kept.now) registry.entry) input.now (λ keys. Send (update.Create held.now.path held.now.birth (parts_of below.now))))) }
-    ensures follows { IfOk result CanFollow }
+    ensures bounded { IfOk result FollowsBounded }
 {
     let subkey = match subkey(alloc, &held.path, below)? {
         Ok(path) => path,
@@ -65,7 +65,7 @@ pub(crate) fn delete_key(
 ) -> Result<Planned, AllocError>
     requires { LacksZero below.now }
     ensures planned { IfOk result (λ planned. planned ≡ unless_refused (or_else (subkey_refusal held.now.path below.now) (invalid_if (length below.now == 0))) input.now (if_open (option_map (λ kept. keys_in kept.now) registry.entry) input.now (λ keys. Send (update.DeleteKey held.now.path held.now.birth (parts_of below.now))))) }
-    ensures follows { IfOk result CanFollow }
+    ensures bounded { IfOk result FollowsBounded }
 {
     let subkey = match subkey(alloc, &held.path, below)? {
         Ok(path) => path,
@@ -95,7 +95,7 @@ pub(crate) fn set_value(
 ) -> Result<Planned, AllocError>
     requires { LacksZero text.now }
     ensures planned { IfOk result (λ planned. planned ≡ unless_refused (or_else (name_refusal text.now) (invalid_if (nat_lt 49152 (length bytes.now)))) input.now (if_open (option_map (λ kept. keys_in kept.now) registry.entry) input.now (λ keys. Send (update.SetValue held.now.path held.now.birth text.now kind bytes.now)))) }
-    ensures follows { IfOk result CanFollow }
+    ensures bounded { IfOk result FollowsBounded }
 {
     let Some(name) = name(alloc, text)? else {
         return refuse(alloc, INVALID_PARAMETER, input, false);
@@ -124,7 +124,7 @@ pub(crate) fn delete_value(
 ) -> Result<Planned, AllocError>
     requires { LacksZero text.now }
     ensures planned { IfOk result (λ planned. planned ≡ unless_refused (name_refusal text.now) input.now (if_open (option_map (λ kept. keys_in kept.now) registry.entry) input.now (λ keys. Send (update.DeleteValue held.now.path held.now.birth text.now)))) }
-    ensures follows { IfOk result CanFollow }
+    ensures bounded { IfOk result FollowsBounded }
 {
     let Some(name) = name(alloc, text)? else {
         return refuse(alloc, INVALID_PARAMETER, input, false);

@@ -1,5 +1,5 @@
 -- Which handles are open, and what each call makes of them.
-use Rattle.std.specs.Prelude.{ℕ, ◌+◌, ◌^◌, ◌<◌, ◌≤◌, ◌==◌, max, Bool, not, List, [], ◌∷◌, ◌++◌, All, Option, None, Some, is_some, IsTrue, if◌then◌else◌}
+use Rattle.std.specs.Prelude.{ℕ, ◌+◌, ◌^◌, ◌<◌, ◌≤◌, ◌==◌, max, Bool, not, List, [], ◌∷◌, ◌++◌, All, Option, None, Some, is_some, if◌then◌else◌}
 use Rattle.std.specs.List.{filter, list_any, position_or_len, remove}
 use Rattle.std.specs.Map.{lookup, remove_entry}
 use Rattle.ndr_values.specs.declared.handle.WireHandle.{WireHandle}
@@ -25,10 +25,6 @@ fresh node = record { node = node; groups = 0; serials = 0; members = []; entrie
 
 abbrev pub has_member : ℕ → List ℕ → Bool
 has_member group members = list_any (λ member. member == group) members
-
--- The group has a connection.
-abbrev pub HasMember : ℕ → List ℕ → Type 0
-HasMember group members = IsTrue (has_member group members)
 
 -- The next group for 0, and else the one that is asked for, where it has a connection.
 abbrev pub group_for : Table → ℕ → Option ℕ

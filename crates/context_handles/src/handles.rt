@@ -3,7 +3,7 @@
 ghost use Rattle.std.specs.Prelude.{◌≡◌, ◌==◌, ◌+◌, ◌<◌, IfOk, OnErr, is_some, position};
 ghost use Rattle.std.specs.Option.{option_map};
 ghost use Rattle.context_handles.specs.Encoding.{handle_of};
-ghost use Rattle.context_handles.specs.Table.{HasMember, IsSound, closed, fresh, found, group_for, has_member, joined, left, named, of_others, opened, without_one};
+ghost use Rattle.context_handles.specs.Table.{IsSound, closed, fresh, found, group_for, has_member, joined, left, named, of_others, opened, without_one};
 
 use crate::encoding::{handle_of, is_handle_of, serial_in};
 use crate::held::{Entry, Held};
@@ -96,7 +96,6 @@ impl Handles {
 
     /// Takes a connection out of its group. With the last one the handles of the group are closed.
     pub fn leave(&mut self, group: u32)
-        requires { HasMember group self.old.members }
         ensures { self.new ≡ left self.old group }
     {
         remove_one(&mut self.members, group);
@@ -105,10 +104,9 @@ impl Handles {
         }
     }
 
-    /// Opens a handle in a group that has a connection.
+    /// Opens a handle in a group.
     pub fn open(&mut self, group: u32, held: Held) -> Result<WireHandle, AllocError>
-        requires member { HasMember group self.old.members }
-        requires serial { self.old.serials < 9223372036854775807 }
+        requires { self.old.serials < 9223372036854775807 }
         ensures given { IfOk result (λ handle. handle ≡ handle_of self.old.node (self.old.serials + 1)) }
         ensures opened { IfOk result (λ handle. self.new ≡ opened self.old group held) }
         ensures unchanged { OnErr result (self.new ≡ self.old) }

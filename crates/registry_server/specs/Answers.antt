@@ -8,7 +8,7 @@ use Rattle.rpc_calls.specs.declared.item.Item.{Item}
 use Rattle.rpc_assoc.specs.declared.assoc.AssocOut.{AssocOut}
 use Rattle.rpc_assoc.specs.declared.assoc.AssocOut.TheVariants.{Call, Nothing, Reply}
 use Rattle.rpc_assoc.specs.Association.{group_wanted, reply_size, step_of}
-use Rattle.rpc_assoc.specs.State.{State}
+use Rattle.rpc_assoc.specs.State.{State, group_of}
 use Rattle.registry_server.specs.declared.effect.Effect.{Effect}
 use Rattle.registry_server.specs.Calls.{called}
 use Rattle.registry_server.specs.Replies.{replies_to}
@@ -28,7 +28,7 @@ given_group s item = group_given s (group_wanted s.association item)
 -- The connection is in this group from now on.
 abbrev pub in_group : ServerState → Option ℕ → ServerState
 in_group s None = s
-in_group s (Some group) = record s { handles = joined s.handles (Some group); group = Some group }
+in_group s (Some group) = record s { handles = joined s.handles (Some group) }
 
 -- ---- one item
 
@@ -44,14 +44,14 @@ taken s item = stepped (in_group s (given_group s item)) (step_of s.association 
 abbrev pub replied : calls.Call → Effect × ServerState → List Pdu × ServerState
 replied call (effect, next) = (replies_to (reply_size next.association.terms) call effect, next)
 
--- No call comes before the bind, since the association has accepted no context then.
+-- A call that is taken is that of a connection in a group, since no context is accepted before the bind.
 abbrev pub call_answered : ServerState → calls.Call → Option ℕ → List Pdu × ServerState
 call_answered s call None = ([], s)
 call_answered s call (Some group) = replied call (called s group call)
 
 abbrev pub answered : AssocOut × ServerState → List Pdu × ServerState
 answered (Reply reply, s) = (reply ∷ [], s)
-answered (Call call, s) = call_answered s call s.group
+answered (Call call, s) = call_answered s call (group_of s.association)
 answered (Nothing, s) = ([], s)
 
 -- The replies to an item, and the server behind it.

@@ -9,14 +9,16 @@ use Rattle.context_handles.specs.Encoding.{handle_of}
 use Rattle.context_handles.specs.Table.{Table, closed, opened}
 use Rattle.clusapi_stubs.specs.declared.input.In.{In}
 use Rattle.clusapi_stubs.specs.Outputs.{CanSpell}
+use Rattle.clusapi_stubs.specs.Parameters.{input_in}
 use Rattle.clusapi_methods.specs.declared.planned.Planned.{Planned}
 use Rattle.clusapi_methods.specs.declared.planned.Planned.TheVariants.{Answer, Close, Fault, Open, Send}
 use Rattle.clusapi_methods.specs.Finishing.{closed_as, finished, opened_as, opened_by}
 use Rattle.clusapi_methods.specs.Plans.{planned_for}
+use Rattle.clusapi_methods.specs.Sizes.{IsShort}
 use Rattle.rpc_calls.specs.declared.call.Call.{Call}
 use Rattle.registry_server.specs.declared.effect.Effect.{Effect}
 use Rattle.registry_server.specs.declared.effect.Effect.TheVariants as effects
-use Rattle.registry_server.specs.Parameters.{input_in}
+use Rattle.registry_server.specs.Parameters.{or_status}
 use Rattle.registry_server.specs.Servers.{ServerState, most_size}
 
 -- ---- handles
@@ -64,9 +66,18 @@ called_with s group (Ok input) = performed s group input (planned_for input s.ha
 
 -- A call of a connection in this group.
 abbrev pub called : ServerState → ℕ → Call → Effect × ServerState
-called s group call = called_with s group (input_in call.opnum call.endian call.stub)
+called s group call = called_with s group (or_status (input_in call.opnum call.endian call.stub))
 
 -- Results have an encoding.
 abbrev pub HasEncoding : Effect → Type 0
 HasEncoding (effects.Results out) = CanSpell out
 HasEncoding (effects.Fault status) = Unit {0}
+
+-- And they are short.
+abbrev pub HasShortResults : Effect → Type 0
+HasShortResults (effects.Results out) = IsShort out
+HasShortResults (effects.Fault status) = Unit {0}
+
+abbrev pub PlansShort : Planned → Type 0
+PlansShort (Answer out reads) = IsShort out
+PlansShort planned = Unit {0}

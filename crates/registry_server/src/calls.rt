@@ -1,12 +1,14 @@
 //! A call: its parameters are read, it is planned, and what was planned is done.
 
-ghost use Rattle.std.specs.Prelude.{◌≡◌, IfOk, Ok};
+ghost use Rattle.std.specs.Prelude.{◌≡◌, IfOk, IsTrue, Ok};
 ghost use Rattle.update_records.specs.Validity.{IsValid};
-ghost use Rattle.context_handles.specs.Table.{HasMember, opened};
+ghost use Rattle.context_handles.specs.Table.{opened};
+ghost use Rattle.clusapi_stubs.specs.Inputs.{size_fits};
+ghost use Rattle.clusapi_stubs.specs.Parameters.{input_in};
 ghost use Rattle.clusapi_methods.specs.Calls.{TextLacksZero};
 ghost use Rattle.clusapi_methods.specs.Finishing.{CanFollow, IsFor, IsUpdateOf};
-ghost use Rattle.registry_server.specs.Calls.{HasEncoding, called, called_with, next_handle, performed, updated, with_handles};
-ghost use Rattle.registry_server.specs.Parameters.{IsFaultOf, IsRead, input_in};
+ghost use Rattle.registry_server.specs.Calls.{HasEncoding, HasShortResults, PlansShort, called, called_with, next_handle, performed, updated, with_handles};
+ghost use Rattle.registry_server.specs.Parameters.{IsFaultOf, IsRead, IsSized, or_status};
 
 use crate::effect::Effect;
 use crate::server::Server;
@@ -24,9 +26,9 @@ const MOST_NUMBER: u64 = 9_223_372_036_854_775_807;
 impl Server {
     /// Makes a call of a connection in this group.
     pub(crate) fn call(&mut self, group: u32, call: &Call) -> Result<Effect, AllocError>
-        requires member { HasMember group self.old.handles.members }
         ensures effect { IfOk result (λ effect. (effect, self.new) ≡ called self.old group call.now) }
         ensures encoding { IfOk result HasEncoding }
+        ensures short { IfOk result HasShortResults }
     {
         match input(self.alloc, call)? {
             Err(status) => Ok(Effect::Fault(status)),
@@ -34,11 +36,13 @@ impl Server {
         }
     }
 
+    #[tactic(auto, using(crate::proofs::ParameterLaws::plans_short))]
     fn planned(&mut self, group: u32, input: &In) -> Result<Effect, AllocError>
-        requires member { HasMember group self.old.handles.members }
         requires text { TextLacksZero input.now }
+        requires size { IsTrue (size_fits input.now) }
         ensures effect { IfOk result (λ effect. (effect, self.new) ≡ called_with self.old group (Ok input.now)) }
         ensures encoding { IfOk result HasEncoding }
+        ensures short { IfOk result HasShortResults }
     {
         let registry = Some(&self.registry);
         let planned = plan(self.alloc, input, &self.handles, group, registry)?;
@@ -46,11 +50,12 @@ impl Server {
     }
 
     fn perform(&mut self, group: u32, input: &In, planned: Planned) -> Result<Effect, AllocError>
-        requires member { HasMember group self.old.handles.members }
         requires follows { CanFollow planned }
+        requires short { PlansShort planned }
         requires update { IsFor input.now planned }
         ensures effect { IfOk result (λ effect. (effect, self.new) ≡ performed self.old group input.now planned) }
         ensures encoding { IfOk result HasEncoding }
+        ensures short { IfOk result HasShortResults }
     {
         match planned {
             Planned::Answer { out, .. } => Ok(Effect::Results(out)),
@@ -69,11 +74,11 @@ impl Server {
 
     /// Makes the update of a call, which is counted whatever comes of it.
     fn update(&mut self, group: u32, input: &In, update: &Update) -> Result<Effect, AllocError>
-        requires member { HasMember group self.old.handles.members }
         requires valid { IsValid update.now }
         requires kind { IsUpdateOf input.now update.now }
         ensures effect { IfOk result (λ effect. (effect, self.new) ≡ updated self.old group input.now update.now) }
         ensures encoding { IfOk result HasEncoding }
+        ensures short { IfOk result HasShortResults }
     {
         if self.updates == MOST_NUMBER {
             return Err(AllocError);
@@ -89,7 +94,6 @@ impl Server {
     }
 
     fn open(&mut self, group: u32, held: Held) -> Result<WireHandle, AllocError>
-        requires member { HasMember group self.old.handles.members }
         ensures given { IfOk result (λ handle. handle ≡ next_handle self.old) }
         ensures opened { IfOk result (λ _. self.new ≡ with_handles self.old (opened self.old.handles group held)) }
     {
@@ -102,8 +106,9 @@ impl Server {
 
 /// The parameters of a call, or the status of the fault where its stub doesn't give them.
 fn input(alloc: Global, call: &Call) -> Result<Result<In, u32>, AllocError>
-    ensures read { IfOk result (λ input. input ≡ input_in call.now.opnum call.now.endian call.now.stub) }
+    ensures read { IfOk result (λ input. input ≡ or_status (input_in call.now.opnum call.now.endian call.now.stub)) }
     ensures text { IfOk result IsRead }
+    ensures size { IfOk result IsSized }
 {
     match read_in(alloc, call.opnum, call.endian, call.stub.as_slice()) {
         Ok(input) => Ok(Ok(input)),

@@ -1,10 +1,11 @@
 //! The bytes of the replies to a call.
 
-ghost use Rattle.std.specs.Prelude.{◌≡◌, ◌-◌, ◌≤◌, All, IfOk};
+ghost use Rattle.std.specs.Prelude.{◌≡◌, ◌-◌, ◌<◌, ◌≤◌, ◌^◌, All, IfOk, length};
 ghost use Rattle.rpc_pdu.specs.Encoding.{CanSpell};
+ghost use Rattle.rpc_calls.specs.Cutting.{reply_pieces};
 ghost use Rattle.registry_server.specs.Answers.{text_of};
-ghost use Rattle.registry_server.specs.Calls.{HasEncoding};
-ghost use Rattle.registry_server.specs.Replies.{replies_to, reply_pieces};
+ghost use Rattle.registry_server.specs.Calls.{HasEncoding, HasShortResults};
+ghost use Rattle.registry_server.specs.Replies.{replies_to};
 
 use crate::effect::Effect;
 use clusapi_stubs::write_out;
@@ -23,6 +24,7 @@ pub(crate) fn reply(
     requires least { 1432 ≤ max_xmit }
     requires most { max_xmit ≤ 5840 }
     requires encoding { HasEncoding effect.now }
+    requires short { HasShortResults effect.now }
     ensures { IfOk result (λ bytes. bytes.items ≡ text_of (replies_to max_xmit call.now effect.now)) }
 {
     match effect {
@@ -38,12 +40,9 @@ pub(crate) fn reply(
 fn cut(alloc: Global, max_xmit: u16, call: &Call, stub: &[u8]) -> Result<Vec<u8>, AllocError>
     requires least { 1432 ≤ max_xmit }
     requires most { max_xmit ≤ 5840 }
+    requires size { length stub.now < 2 ^ 32 }
     ensures { IfOk result (λ bytes. bytes.items ≡ text_of (reply_pieces call.now.call_id call.now.context (max_xmit - 24) stub.now)) }
 {
-    // No results are so long, since the names and the data of a registry are bounded.
-    if stub.len() > u32::MAX as usize {
-        return Err(AllocError);
-    }
     let pieces = cut_reply(alloc, call.call_id, call.context, max_xmit, stub)?;
     encode_all(alloc, &pieces)
 }

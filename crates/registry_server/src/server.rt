@@ -1,9 +1,12 @@
 //! A server between two items of a client, and the answer to the next one.
 
-ghost use Rattle.std.specs.Prelude.{◌≡◌, [], ◌∷◌, IfOk};
-ghost use Rattle.rpc_assoc.specs.Association.{AsksFew, SpellsReply};
+ghost use Rattle.std.specs.Prelude.{◌≡◌, [], ◌∷◌, IfOk, IsTrue, Some, is_some};
+ghost use Rattle.rpc_calls.specs.Parts.{ItemFits};
+ghost use Rattle.rpc_assoc.specs.State.{group_of};
+ghost use Rattle.rpc_assoc.specs.Association.{IsInGroup, SpellsReply};
 ghost use Rattle.rpc_pdu.specs.Encoding.{CanSpell};
-ghost use Rattle.registry_server.specs.Answers.{answer_to, call_answered, given_group, in_group, taken, text_of};
+ghost use Rattle.registry_server.specs.Answers.{answer_to, call_answered, given_group, in_group, replied, taken, text_of};
+ghost use Rattle.registry_server.specs.Calls.{called};
 ghost use Rattle.registry_server.specs.Servers.{hung_up, new_server};
 
 use crate::replies::reply;
@@ -27,8 +30,6 @@ pub struct Server {
     /// How many calls that update were made so far.
     pub(crate) updates: u64,
     association: Assoc,
-    /// The association group of the connection, once it is bound.
-    group: Option<u32>,
 }
 
 impl Model for Server {
@@ -37,9 +38,9 @@ impl Model for Server {
 
     ghost Value = { ServerState };
 
-    ghost view = { λ s. record { handles = s.handles; keys = keys_in s.registry; updates = s.updates; association = s.association; group = s.group } };
+    ghost view = { λ s. record { handles = s.handles; keys = keys_in s.registry; updates = s.updates; association = s.association } };
 
-    ghost invariant = { λ s. IsKept s.handles s.registry.cap s.updates s.group };
+    ghost invariant = { λ s. IsKept s.registry.cap s.updates };
 }
 
 impl Server {
@@ -53,7 +54,6 @@ impl Server {
             registry: Registry::new(alloc, MOST_SIZE)?,
             updates: 0,
             association: Assoc::new(alloc),
-            group: None,
         })
     }
 
@@ -62,7 +62,7 @@ impl Server {
     /// Where memory ran out the call may have been made: the server isn't to be used any more. The same is answered where a
     /// number is at the end of its type, since nothing else could be done.
     pub fn answer(&mut self, item: Item) -> Result<Vec<u8>, AllocError>
-        requires few { AsksFew item }
+        requires few { ItemFits item }
         ensures replies { IfOk result (λ bytes. bytes.items ≡ text_of (answer_to self.old item).0) }
         ensures state { IfOk result (λ _. self.new ≡ (answer_to self.old item).1) }
     {
@@ -77,18 +77,18 @@ impl Server {
     pub fn hang_up(&mut self)
         ensures { self.new ≡ hung_up self.old }
     {
-        if let Some(group) = self.group {
+        if let Some(group) = self.association.group() {
             self.handles.leave(group);
         }
         self.association = Assoc::new(self.alloc);
-        self.group = None;
     }
 
     /// Hands the item to the association, in the group that it gets.
     fn step(&mut self, item: Item) -> Result<AssocOut, AllocError>
-        requires few { AsksFew item }
+        requires few { ItemFits item }
         ensures step { IfOk result (λ out. (out, self.new) ≡ taken self.old item) }
         ensures encoding { IfOk result SpellsReply }
+        ensures grouped { IfOk result (λ out. IsInGroup out self.new.association) }
     {
         let group = self.join(&item)?;
         self.association.step(item, group)
@@ -102,22 +102,32 @@ impl Server {
         let Some(asked) = self.association.wants(item) else {
             return Ok(None);
         };
-        let given = self.handles.join_group(asked)?;
-        if let Some(group) = given {
-            self.group = Some(group);
-        }
-        Ok(given)
+        self.handles.join_group(asked)
     }
 
     /// The bytes of the replies to a call.
     fn answer_call(&mut self, call: &Call) -> Result<Vec<u8>, AllocError>
-        ensures replies { IfOk result (λ bytes. bytes.items ≡ text_of (call_answered self.old call.now self.old.group).0) }
-        ensures state { IfOk result (λ _. self.new ≡ (call_answered self.old call.now self.old.group).1) }
+        requires grouped { IsTrue (is_some (group_of self.old.association)) }
+        ensures replies { IfOk result (λ bytes. bytes.items ≡ text_of (call_answered self.old call.now (group_of self.old.association)).0) }
+        ensures state { IfOk result (λ _. self.new ≡ (call_answered self.old call.now (group_of self.old.association)).1) }
     {
-        // No context was accepted before the bind.
-        let Some(group) = self.group else {
-            return Ok(Vec::new(self.alloc));
-        };
+        let group = self.group();
+        self.answer_in(group, call)
+    }
+
+    /// The association group of the connection, which is bound.
+    fn group(&self) -> u32
+        requires { IsTrue (is_some (group_of self.now.association)) }
+        ensures { group_of self.now.association ≡ Some result }
+    {
+        self.association.group().unwrap()
+    }
+
+    /// The same for a connection in this group.
+    fn answer_in(&mut self, group: u32, call: &Call) -> Result<Vec<u8>, AllocError>
+        ensures replies { IfOk result (λ bytes. bytes.items ≡ text_of (replied call.now (called self.old group call.now)).0) }
+        ensures state { IfOk result (λ _. self.new ≡ (replied call.now (called self.old group call.now)).1) }
+    {
         let effect = self.call(group, call)?;
         reply(self.alloc, self.association.max_xmit(), call, &effect)
     }

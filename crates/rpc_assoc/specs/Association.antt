@@ -1,5 +1,5 @@
 -- The answer of an association to each item of a client's stream (C706, 12.6.3 and 12.6.4).
-use Rattle.std.specs.Prelude.{ℕ, ◌<◌, Bool, min, nat_lt, ◌==◌, ◌||◌, ◌++◌, List, length, map, Option, Some, None, is_some, if◌then◌else◌}
+use Rattle.std.specs.Prelude.{ℕ, Bool, IsTrue, min, nat_lt, ◌==◌, ◌||◌, ◌++◌, List, map, Option, Some, None, is_some, if◌then◌else◌}
 use Rattle.std.specs.List.{list_any}
 use Rattle.rpc_calls.specs.declared.call.Call as calls
 use Rattle.rpc_calls.specs.declared.item.Item.{Item}
@@ -12,7 +12,7 @@ use Rattle.rpc_assoc.specs.declared.assoc.AssocOut.{AssocOut}
 use Rattle.rpc_assoc.specs.declared.assoc.AssocOut.TheVariants.{Reply, Call, Nothing}
 use Rattle.rpc_assoc.specs.declared.terms.Terms.{Terms}
 use Rattle.rpc_assoc.specs.Answers.{accepts_alter, accepts_bind, fault_on, nak}
-use Rattle.rpc_assoc.specs.State.{State}
+use Rattle.rpc_assoc.specs.State.{State, group_of}
 use Rattle.rpc_assoc.specs.Verdicts.{accepted_in, verdict_of}
 
 -- A client that can't take or send fragments of 1,432 bytes is refused.
@@ -88,12 +88,11 @@ abbrev pub SpellsReply : AssocOut → Type 0
 SpellsReply (Reply reply) = CanSpell reply
 SpellsReply _ = Unit {0}
 
--- As many contexts as a PDU can propose.
-abbrev pub ProposesFew : Pdu → Type 0
-ProposesFew (Bind head max_xmit max_recv wanted proposals) = length proposals < 256
-ProposesFew (AlterContext head max_xmit max_recv wanted proposals) = length proposals < 256
-ProposesFew _ = Unit {0}
+-- A call that is taken is that of a connection in a group.
+abbrev pub IsInGroup : AssocOut → State → Type 0
+IsInGroup (Call call) s = IsTrue (is_some (group_of s))
+IsInGroup _ s = Unit {0}
 
-abbrev pub AsksFew : Item → Type 0
-AsksFew (items.Single pdu) = ProposesFew pdu
-AsksFew _ = Unit {0}
+abbrev pub IsNoCall : AssocOut → Type 0
+IsNoCall (Call call) = ⊥
+IsNoCall _ = Unit {0}

@@ -1,4 +1,5 @@
 pub mod Answers
 pub mod Association
+pub mod Laws
 pub mod State
 pub mod Verdicts

@@ -2,8 +2,9 @@
 
 ghost use Rattle.std.specs.Prelude.{◌≡◌, ◌≤◌, ◌==◌, IfOk, OnErr, OnOk, is_some};
 ghost use Rattle.std.specs.List.{list_any};
-ghost use Rattle.rpc_assoc.specs.State.{AreTerms, unbound};
-ghost use Rattle.rpc_assoc.specs.Association.{AsksFew, SpellsReply, alter_answer, bind_answer, bound, call_answer, group_in, group_wanted, is_too_small, reply_size, single_answer, step_of, terms_for};
+ghost use Rattle.rpc_calls.specs.Parts.{ItemFits};
+ghost use Rattle.rpc_assoc.specs.State.{AcceptsBy, AreTerms, group_of, unbound};
+ghost use Rattle.rpc_assoc.specs.Association.{IsInGroup, IsNoCall, SpellsReply, alter_answer, bind_answer, bound, call_answer, group_in, group_wanted, is_too_small, reply_size, single_answer, step_of, terms_for};
 
 use crate::answers::{alter_context_resp, bind_ack, bind_nak, fault};
 use crate::terms::Terms;
@@ -43,13 +44,13 @@ pub struct Assoc {
 
 impl Model for Assoc {
     ghost use Rattle.std.specs.Prelude.{IfSome};
-    ghost use Rattle.rpc_assoc.specs.State.{State, AreTerms};
+    ghost use Rattle.rpc_assoc.specs.State.{AcceptsBy, AreTerms, State};
 
     ghost Value = { State };
 
     ghost view = { λ assoc. record { terms = assoc.terms; accepted = assoc.accepted.items } };
 
-    ghost invariant = { λ assoc. IfSome assoc.terms AreTerms };
+    ghost invariant = { λ assoc. IfSome assoc.terms AreTerms × AcceptsBy assoc.terms assoc.accepted.items };
 }
 
 impl Assoc {
@@ -93,6 +94,13 @@ impl Assoc {
         }
     }
 
+    /// The association group of the connection, once it is bound.
+    pub fn group(&self) -> Option<u32>
+        ensures { result ≡ group_of self.now }
+    {
+        self.terms.map(|terms| terms.group)
+    }
+
     /// The longest fragment that the server may send.
     pub fn max_xmit(&self) -> u16
         ensures agreed { result ≡ reply_size self.now.terms }
@@ -109,7 +117,8 @@ impl Assoc {
     pub fn step(&mut self, item: Item, group: Option<u32>) -> Result<AssocOut, AllocError>
         ensures answer { IfOk result (λ out. (out, self.new) ≡ step_of self.old item group) }
         ensures unchanged { OnErr result (self.new ≡ self.old) }
-        ensures spelled { AsksFew item → IfOk result SpellsReply }
+        ensures spelled { ItemFits item → IfOk result SpellsReply }
+        ensures grouped { IfOk result (λ out. IsInGroup out self.new) }
     {
         self.answer(item, group)
     }
@@ -118,6 +127,7 @@ impl Assoc {
     fn answer(&mut self, item: Item, group: Option<u32>) -> Result<AssocOut, AllocError>
         ensures answer { IfOk result (λ out. (out, self.new) ≡ step_of self.old item group) }
         ensures unchanged { OnErr result (self.new ≡ self.old) }
+        ensures grouped { IfOk result (λ out. IsInGroup out self.new) }
     {
         match item {
             Item::Call(call) => Ok(self.call(call)),
@@ -132,6 +142,7 @@ impl Assoc {
     fn single(&mut self, pdu: Pdu, group: Option<u32>) -> Result<AssocOut, AllocError>
         ensures answer { IfOk result (λ out. (out, self.new) ≡ single_answer self.old pdu group) }
         ensures unchanged { OnErr result (self.new ≡ self.old) }
+        ensures no_call { IfOk result IsNoCall }
     {
         match pdu {
             Pdu::Bind {
@@ -152,7 +163,8 @@ impl Assoc {
 
     #[tactic(auto, unfolding(crate::specs::Association::call_answer))]
     fn call(&self, call: Call) -> AssocOut
-        ensures { (result, self.now) ≡ call_answer self.now call }
+        ensures answer { (result, self.now) ≡ call_answer self.now call }
+        ensures grouped { IsInGroup result self.now }
     {
         if self.has_accepted(call.context) {
             return AssocOut::Call(call);
@@ -171,6 +183,7 @@ impl Assoc {
     ) -> Result<AssocOut, AllocError>
         ensures answer { IfOk result (λ out. (out, self.new) ≡ bind_answer self.old call_id max_xmit max_recv proposals group) }
         ensures unchanged { OnErr result (self.new ≡ self.old) }
+        ensures no_call { IfOk result IsNoCall }
     {
         if self.is_bound() {
             return Ok(AssocOut::Reply(bind_nak(self.alloc, call_id, 0)?));
@@ -193,6 +206,7 @@ impl Assoc {
     fn alter(&mut self, call_id: u32, proposals: Proposals) -> Result<AssocOut, AllocError>
         ensures answer { IfOk result (λ out. (out, self.new) ≡ alter_answer self.old call_id proposals) }
         ensures unchanged { OnErr result (self.new ≡ self.old) }
+        ensures no_call { IfOk result IsNoCall }
     {
         match self.terms {
             None => Ok(AssocOut::Reply(bind_nak(self.alloc, call_id, 0)?)),
@@ -217,15 +231,16 @@ impl Assoc {
     }
 
     /// Whether the client was answered by a bind_ack.
-    pub fn is_bound(&self) -> bool
+    fn is_bound(&self) -> bool
         ensures { result ≡ is_some self.now.terms }
     {
         self.terms.is_some()
     }
 
     /// Whether calls on the context are taken.
-    pub fn has_accepted(&self, context: u16) -> bool
-        ensures { result ≡ list_any (λ id. id == context) self.now.accepted }
+    fn has_accepted(&self, context: u16) -> bool
+        ensures accepted { result ≡ list_any (λ id. id == context) self.now.accepted }
+        ensures bound { AcceptsBy self.now.terms self.now.accepted }
     {
         self.accepted.iter().any(|id| *id == context)
     }

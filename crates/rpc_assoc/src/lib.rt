@@ -4,11 +4,12 @@
 
 mod answers;
 mod assoc;
+mod laws;
 mod syntaxes;
 mod terms;
 mod verdicts;
 
 pub use answers::fault;
 pub use assoc::{Assoc, AssocOut};
+pub use laws::contexts_are_accepted_as_told;
 pub use terms::Terms;
-pub use verdicts::accepts;

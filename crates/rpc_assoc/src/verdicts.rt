@@ -34,7 +34,7 @@ pub(crate) fn accepted_ids(alloc: Global, proposals: &[Proposal]) -> Result<Vec<
 }
 
 /// Whether the context would be accepted.
-pub fn accepts(proposal: &Proposal) -> bool
+fn accepts(proposal: &Proposal) -> bool
     ensures { result ≡ is_accepted proposal.now }
 {
     verdict(proposal).result == 0

@@ -1,9 +1,11 @@
 pub mod Assembling
 pub mod FrameRuns
 pub mod HoldingLaws
+pub mod ItemLaws
 pub mod NextLaws
 pub mod PartUniqueness
 pub mod ReplyLaws
+pub mod StreamItems
 pub mod StreamUniqueness
 pub mod CallLaws
 pub mod CallsOfStreams

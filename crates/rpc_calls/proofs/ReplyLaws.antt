@@ -1,5 +1,5 @@
 -- The pieces of a reply have encodings, and joined on the client's side they are one call.
-use Rattle.std.proofs.Common.{◌≡◌, ℕ, ◌+◌, ◌^◌, ◌≤◌, ◌<◌, Bool, true, false, List, [], ◌∷◌, ◌++◌, length, take, drop, refl, sym, ap, ◌∙◌, subst, append_assoc, length-append, arith}
+use Rattle.std.proofs.Common.{◌≡◌, ℕ, zero, suc, ◌+◌, ◌^◌, ◌≤◌, ◌<◌, Bool, true, false, List, [], ◌∷◌, ◌++◌, length, take, drop, refl, sym, ap, ◌∙◌, subst, append_assoc, length-append, arith}
 use Rattle.std.specs.Prelude.{Option, Some, None, nat_lt, map}
 use Rattle.std.specs.List.{All, concat}
 use Rattle.std.proofs.Math.Nat.{div-mul-le_self}
@@ -23,10 +23,11 @@ use Rattle.rpc_calls.specs.declared.item.Item.{Item}
 use Rattle.rpc_calls.specs.declared.item.Item.TheVariants as items
 use Rattle.rpc_calls.specs.declared.side.Side.TheVariants.{Client}
 use Rattle.rpc_calls.specs.Assembly.{ended, extended, finished_if, joined, most_stub, no_call, taken}
-use Rattle.rpc_calls.specs.Cutting.{CutInto, response_piece, replied, room_of}
+use Rattle.rpc_calls.specs.Cutting.{before_last, pieces, replied, reply_pieces, response_piece, room_of}
 use Rattle.rpc_calls.specs.Frames.{IsFrame}
 use Rattle.rpc_calls.specs.Intakes.{no_fault}
 use Rattle.rpc_calls.specs.Streams.{Items, Runs}
+use Rattle.rpc_calls.proofs.CuttingLaws.{count_behind, fits_last, has_more}
 
 -- ---- encodings
 
@@ -43,20 +44,19 @@ piece_spells : (call_id context flags hint most : ℕ) (stub : List ℕ) → len
 piece_spells call_id context flags hint most stub short small =
     response_spells (record { endian = Little; minor = 0; flags = flags; call_id = call_id }) hint context 0 stub (omega arith) (omega arith)
 
-spells_same : (p q : Pdu) → p ≡ q → CanSpell q → CanSpell p
-spells_same p q same can = subst CanSpell (sym same) can
+each_spells : (call_id context most n first : ℕ) (stub : List ℕ) → most ≤ 5816 → 0 < room_of most → before_last most (length stub) ≡ n
+    → AllByRecursion CanSpell (pieces (response_piece call_id context) (room_of most) n first stub)
+unfolding pieces
+each_spells call_id context most zero first stub small room count =
+    (piece_spells call_id context (first + 2) (length stub) most stub (fits_last most (length stub) room count) small, tt)
+each_spells call_id context most (suc n) first stub small room count =
+    let long = has_more most (length stub) n room count in
+    let behind = count_behind most n stub room count in
+    (piece_spells call_id context first (length stub) most (take (room_of most) stub) (length-front most stub long) small, each_spells call_id context most n 0 (drop (room_of most) stub) small room behind)
 
-each_spells : (call_id context most first : ℕ) (stub : List ℕ) (pdus : List Pdu) → most ≤ 5816 → CutInto (response_piece call_id context) most first stub pdus → AllByRecursion CanSpell pdus
-unfolding CutInto
-each_spells call_id context most first stub [] small cut = absurd cut
-each_spells call_id context most first stub (p ∷ []) small (short, is) =
-    (spells_same p _ is (piece_spells call_id context (first + 2) (length stub) most stub short small), tt)
-each_spells call_id context most first stub (p ∷ q ∷ more) small (long, is, cut) =
-    let front = take (room_of most) stub in
-    (spells_same p _ is (piece_spells call_id context first (length stub) most front (length-front most stub long) small), each_spells call_id context most 0 (drop (room_of most) stub) (q ∷ more) small cut)
-
-pub all_spell : (call_id context most first : ℕ) (stub : List ℕ) (pdus : List Pdu) → most ≤ 5816 → CutInto (response_piece call_id context) most first stub pdus → All CanSpell pdus
-all_spell call_id context most first stub pdus small cut = All-from_recursion CanSpell pdus (each_spells call_id context most first stub pdus small cut)
+pub all_spell : (call_id context most : ℕ) (stub : List ℕ) → most ≤ 5816 → 0 < room_of most → All CanSpell (reply_pieces call_id context most stub)
+all_spell call_id context most stub small room =
+    All-from_recursion CanSpell (reply_pieces call_id context most stub) (each_spells call_id context most (before_last most (length stub)) 1 stub small room refl)
 
 -- ---- one piece on the client's side
 
@@ -125,52 +125,56 @@ flags-small false false = omega arith
 abbrev one_call : ℕ → ℕ → List ℕ → List Item
 one_call call_id context stub = items.Call (replied call_id context stub) ∷ []
 
-pieces_run : (call_id context most place : ℕ) (first : Bool) (front stub : List ℕ) (pdus : List Pdu) → call_id < 256 ^ 4 → context < 256 ^ 2 → most ≤ 5816 → NoneBefore first front
-    → length (front ++ stub) ≤ most_stub → CutInto (response_piece call_id context) most (flag_of first) stub pdus
-    → Runs Client place (held_before first (replied call_id context front)) (map spelling pdus) (one_call call_id context (front ++ stub)) no_call
-unfolding CutInto Runs
-pieces_run call_id context most place first front stub [] id_fits context_fits small none short cut = absurd cut
-pieces_run call_id context most place first front stub (p ∷ []) id_fits context_fits small none short (fits, is) =
+pieces_run : (call_id context most n place : ℕ) (first : Bool) (front stub : List ℕ) → call_id < 256 ^ 4 → context < 256 ^ 2 → most ≤ 5816 → 0 < room_of most → NoneBefore first front
+    → length (front ++ stub) ≤ most_stub → before_last most (length stub) ≡ n
+    → Runs Client place (held_before first (replied call_id context front)) (map spelling (pieces (response_piece call_id context) (room_of most) n (flag_of first) stub))
+    (one_call call_id context (front ++ stub)) no_call
+unfolding pieces Runs
+pieces_run call_id context most zero place first front stub id_fits context_fits small room none short count =
     let piece = response_piece call_id context (flag_of first + 2) (length stub) stub in
+    let fits = fits_last most (length stub) room count in
     let hint_fits : length stub < 256 ^ 4 = omega (arith, length-append front stub) in
-    let made = piece_is_pdu call_id context (flag_of first + 2) (length stub) most stub fits small id_fits context_fits (flags-small first true) hint_fits in
-    let spelled : IsPdu (spelling p) piece = subst (λ (q : Pdu). IsPdu (spelling q) piece) (sym is) made in (
+    let made = piece_is_pdu call_id context (flag_of first + 2) (length stub) most stub fits small id_fits context_fits (flags-small first true) hint_fits in (
       items.Single piece,
       None,
       Some (items.Call (replied call_id context (front ++ stub))),
       [],
-      pdu_is_frame (spelling p) piece spelled,
-      spelled,
+      pdu_is_frame (spelling piece) piece made,
+      made,
       piece_taken call_id context (length stub) place first true front stub none short,
       refl,
       (refl, refl),
     )
-pieces_run call_id context most place first front stub (p ∷ q ∷ more) id_fits context_fits small none short (long, is, cut) =
+pieces_run call_id context most (suc n) place first front stub id_fits context_fits small room none short count =
     let head = take (room_of most) stub in
     let rest = drop (room_of most) stub in
     let piece = response_piece call_id context (flag_of first) (length stub) head in
+    let long = has_more most (length stub) n room count in
     let hint_fits : length stub < 256 ^ 4 = omega (arith, length-append front stub) in
     let made = piece_is_pdu call_id context (flag_of first) (length stub) most head (length-front most stub long) small id_fits context_fits (flags-small first false) hint_fits in
-    let spelled : IsPdu (spelling p) piece = subst (λ (r : Pdu). IsPdu (spelling r) piece) (sym is) made in
     let regrouped : (front ++ head) ++ rest ≡ front ++ stub = append_assoc front head rest ∙ ap (λ (s : List ℕ). front ++ s) (take-append-drop (room_of most) stub) in
     let short_front : length (front ++ head) ≤ most_stub = omega (arith, ap length regrouped, length-append (front ++ head) rest) in
     let short_all : length ((front ++ head) ++ rest) ≤ most_stub = rw regrouped short in
-    let runs = pieces_run call_id context most (place + length (spelling p)) false (front ++ head) rest (q ∷ more) id_fits context_fits small tt short_all cut in
+    let behind = count_behind most n stub room count in
+    let runs = pieces_run call_id context most n (place + length (spelling piece)) false (front ++ head) rest id_fits context_fits small room tt short_all behind in
+    let others = map spelling (pieces (response_piece call_id context) (room_of most) n 0 rest) in
     let P : List ℕ → Type 0 =
-    λ all. Runs Client (place + length (spelling p)) (Some (replied call_id context (front ++ head))) (map spelling (q ∷ more)) (one_call call_id context all) no_call in (
+    λ all. Runs Client (place + length (spelling piece)) (Some (replied call_id context (front ++ head))) others (one_call call_id context all) no_call in (
       items.Single piece,
       Some (replied call_id context (front ++ head)),
       None,
       one_call call_id context (front ++ stub),
-      pdu_is_frame (spelling p) piece spelled,
-      spelled,
+      pdu_is_frame (spelling piece) piece made,
+      made,
       piece_taken call_id context (length stub) place first false front head none short_front,
       refl,
       subst P regrouped runs,
     )
 
-pub replies_join : (call_id context most : ℕ) (stub : List ℕ) (pdus : List Pdu) → call_id < 256 ^ 4 → context < 256 ^ 2 → most ≤ 5816 → length stub ≤ most_stub
-    → CutInto (response_piece call_id context) most 1 stub pdus → Items Client (concat (map spelling pdus)) (one_call call_id context stub) no_fault
-replies_join call_id context most stub pdus id_fits context_fits small short cut =
-    let runs = pieces_run call_id context most 0 true [] stub pdus id_fits context_fits small refl short cut in
-    (map spelling pdus, None, [], record { whole = sym (append-nil (concat (map spelling pdus))); runs = runs }, tt)
+pub replies_join : (call_id context most : ℕ) (stub : List ℕ) → call_id < 256 ^ 4 → context < 256 ^ 2 → 8 ≤ most → most ≤ 5816 → length stub ≤ most_stub
+    → Items Client (concat (map spelling (reply_pieces call_id context most stub))) (one_call call_id context stub) no_fault
+replies_join call_id context most stub id_fits context_fits large small short =
+    let room : 0 < room_of most = omega arith in
+    let frames = map spelling (reply_pieces call_id context most stub) in
+    let runs = pieces_run call_id context most (before_last most (length stub)) 0 true [] stub id_fits context_fits small room refl short refl in
+    (frames, None, [], record { whole = sym (append-nil (concat frames)); runs = runs }, tt)

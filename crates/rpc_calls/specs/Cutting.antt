@@ -1,5 +1,5 @@
 -- A stub is cut into fragments (C706 12.6.4).
-use Rattle.std.specs.Prelude.{◌≡◌, ℕ, ◌+◌, ◌*◌, ◌/◌, ◌<◌, ◌≤◌, List, [], ◌∷◌, length, take, drop}
+use Rattle.std.specs.Prelude.{ℕ, zero, suc, ◌+◌, ◌-◌, ◌*◌, ◌/◌, List, [], ◌∷◌, length, take, drop}
 use Rattle.wire_fields.specs.declared.endian.Endian.TheVariants.{Little}
 use Rattle.rpc_pdu.specs.declared.pdu.Pdu.{Pdu}
 use Rattle.rpc_pdu.specs.declared.pdu.Pdu.TheVariants.{Response}
@@ -18,12 +18,19 @@ replied call_id context stub = record { context = context; opnum = 0; call_id = 
 abbrev pub room_of : ℕ → ℕ
 room_of most = most / 8 * 8
 
--- The fragments of what is left of a stub, of at most so many bytes each. The first of all has flag
--- 0x01 and the last flag 0x02. A fragment that isn't the last stands only where the rest doesn't fit
--- into one, so there are as few as can be; an empty stub has one.
-unfoldable pub CutInto : (ℕ → ℕ → List ℕ → Pdu) → ℕ → ℕ → List ℕ → List Pdu → Type 0
-CutInto piece most first stub [] = ⊥
-CutInto piece most first stub (pdu ∷ []) = (length stub ≤ most) × (pdu ≡ piece (first + 2) (length stub) stub)
-CutInto piece most first stub (pdu ∷ next ∷ more) =
-    (most < length stub) × (pdu ≡ piece first (length stub) (take (room_of most) stub))
-    × CutInto piece most 0 (drop (room_of most) stub) (next ∷ more)
+-- How many pieces stand before the last one, which has at most so many bytes: what it has no room for, rounded up.
+abbrev pub before_last : ℕ → ℕ → ℕ
+before_last most size = (size - most + (room_of most - 1)) / room_of most
+
+-- So many pieces with room for a multiple of 8 bytes, and the last one. The first of all has flag 0x01 and the last flag 0x02.
+unfoldable pub pieces : (ℕ → ℕ → List ℕ → Pdu) → ℕ → ℕ → ℕ → List ℕ → List Pdu
+pieces piece room zero first stub = piece (first + 2) (length stub) stub ∷ []
+pieces piece room (suc more) first stub = piece first (length stub) (take room stub) ∷ pieces piece room more 0 (drop room stub)
+
+-- A stub in as few pieces as can be, of at most so many bytes each. An empty stub has one.
+abbrev pub cut_by : (ℕ → ℕ → List ℕ → Pdu) → ℕ → ℕ → List ℕ → List Pdu
+cut_by piece most first stub = pieces piece (room_of most) (before_last most (length stub)) first stub
+
+-- A stub in responses of at most so many bytes of stub each.
+abbrev pub reply_pieces : ℕ → ℕ → ℕ → List ℕ → List Pdu
+reply_pieces call_id context most stub = cut_by (response_piece call_id context) most 1 stub

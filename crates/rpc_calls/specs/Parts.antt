@@ -3,6 +3,7 @@ use Rattle.std.specs.Prelude.{◌≡◌, ℕ, ◌==◌, List, slice_index, Optio
 use Rattle.wire_fields.specs.Reading.{number_in}
 use Rattle.rpc_pdu.specs.declared.pdu_fault.PduFault.{PduFault}
 use Rattle.rpc_pdu.specs.declared.pdu_fault.PduFault.TheVariants.{BadVersion, HasAuth}
+use Rattle.rpc_pdu.specs.Encoding.{CountsFit}
 use Rattle.rpc_pdu.specs.Grammar.{IsPdu, PduBad}
 use Rattle.rpc_pdu.specs.Header.{order_of}
 use Rattle.rpc_calls.specs.declared.item.Item.{Item}
@@ -35,3 +36,8 @@ IsPart frame (items.Call call) = ⊥
 -- The frame is neither.
 abbrev pub FrameBad : List ℕ → PduFault → Type 0
 FrameBad frame fault = PduBad frame fault × (refusal frame fault ≡ no_reason)
+
+-- Each list of an item fits its count, so at most 255 contexts are proposed.
+abbrev pub ItemFits : Item → Type 0
+ItemFits (items.Single pdu) = CountsFit pdu
+ItemFits item = Unit {0}

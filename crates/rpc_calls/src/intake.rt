@@ -3,7 +3,8 @@
 ghost use Rattle.std.specs.Prelude.{◌≡◌, ◌+◌, ◌<◌, ◌≤◌, ◌^◌, List, [], ℕ, length, IfErr, IfOk, IfSome, OnOk, ◌++◌};
 ghost use Rattle.rpc_calls.specs.declared.item.Item.{Item};
 ghost use Rattle.rpc_calls.specs.Assembly.{most_stub, stub_length};
-ghost use Rattle.rpc_calls.specs.Intakes.{FeedIs, GivesAgain, Holds, KeepsFault, NextIs, NoMemoryInside, NumbersAre, Stays, fresh, most_unprocessed, stream_length};
+ghost use Rattle.rpc_calls.specs.Intakes.{FeedIs, FewWait, GivesAgain, Holds, KeepsFault, NextIs, NoMemoryInside, NumbersAre, Stays, fresh, most_unprocessed, stream_length};
+ghost use Rattle.rpc_calls.specs.Parts.{ItemFits};
 ghost use Rattle.rpc_calls.specs.Turns.{TurnIs, refused, reported};
 
 use crate::call::Call;
@@ -99,6 +100,8 @@ impl Intake {
         ensures again { GivesAgain result self.old }
         ensures numbers { NumbersAre result self.old self.new }
         ensures stays { Stays self.old self.new }
+        ensures few { IfOk result (λ item. IfSome item ItemFits) }
+        ensures waits { FewWait result self.new }
         // An item takes its frame, at the least, from the bytes that are kept.
         ensures shorter { IfOk result (λ item. IfSome item (λ _. length self.new.rest < length self.old.rest)) }
     {
@@ -119,6 +122,13 @@ impl Intake {
                 Err(fault) => return Err(fault),
             }
         }
+    }
+
+    /// How many bytes of the stream were taken in.
+    pub fn received(&self) -> u64
+        ensures { result ≡ stream_length self.now }
+    {
+        self.place + self.rest.len() as u64
     }
 
     /// How many bytes of the stream lie behind the frame of the last item, or where `next` stopped.

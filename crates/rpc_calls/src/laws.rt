@@ -2,7 +2,7 @@
 
 ghost use Rattle.std.specs.Prelude.{◌≡◌, ◌+◌, ◌++◌, ◌^◌, ◌<◌, ◌≤◌, [], ◌∷◌, List, map, Option, ℕ, length};
 ghost use Rattle.std.specs.List.{concat};
-ghost use Rattle.rpc_pdu.specs.declared.pdu.Pdu.{Pdu};
+ghost use Rattle.wire_fields.specs.Numbers.{IsBytes};
 ghost use Rattle.rpc_pdu.specs.Encoding.{spelling};
 ghost use Rattle.rpc_calls.specs.declared.call.Call.{Call};
 ghost use Rattle.rpc_calls.specs.declared.intake_fault.IntakeFault.{IntakeFault};
@@ -11,9 +11,14 @@ ghost use Rattle.rpc_calls.specs.declared.side.Side.{Side};
 ghost use Rattle.rpc_calls.specs.declared.side.Side.TheVariants.{Client};
 ghost use Rattle.rpc_calls.specs.Assembly.{most_stub};
 ghost use Rattle.rpc_calls.specs.Calls.{ArePartsOf, ItemsAt, LeftIs};
-ghost use Rattle.rpc_calls.specs.Cutting.{CutInto, replied, response_piece};
+ghost use Rattle.rpc_calls.specs.Cutting.{replied, reply_pieces};
 ghost use Rattle.rpc_calls.specs.Intakes.{Holds, Kept, no_fault, stream_length};
 ghost use Rattle.rpc_calls.specs.Streams.{Items, Reads};
+
+/// Each stream of bytes has its list of items, and a fault where it has no further one for another reason than its end.
+pub fn items_exist()
+    ensures { (side : Side) (stream : List ℕ) → IsBytes stream → (given : List Item) × (fault : Option IntakeFault) × Items side stream given fault }
+{}
 
 /// A stream has one list of items and at most one fault, however it is cut into pieces.
 pub fn items_are_one()
@@ -52,7 +57,6 @@ pub fn calls_are_their_fragments()
 
 /// A reply that was cut is, on the client's side, one call with its stub.
 pub fn replies_are_joined()
-    ensures { (call_id context most : ℕ) (stub : List ℕ) (pdus : List Pdu) → call_id < 256 ^ 4 → context < 256 ^ 2 → most ≤ 5816 → length stub ≤ most_stub
-        → CutInto (response_piece call_id context) most 1 stub pdus
-        → Items Client (concat (map spelling pdus)) (Item.Call (replied call_id context stub) ∷ []) no_fault }
+    ensures { (call_id context most : ℕ) (stub : List ℕ) → call_id < 256 ^ 4 → context < 256 ^ 2 → 8 ≤ most → most ≤ 5816 → length stub ≤ most_stub
+        → Items Client (concat (map spelling (reply_pieces call_id context most stub))) (Item.Call (replied call_id context stub) ∷ []) no_fault }
 {}

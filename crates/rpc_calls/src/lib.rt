@@ -19,8 +19,8 @@ pub use intake::Intake;
 pub use intake_fault::IntakeFault;
 pub use item::Item;
 pub use laws::{
-    calls_are_their_fragments, faults_stand, given_are_first, items_are_one, length_is_known,
-    replies_are_joined,
+    calls_are_their_fragments, faults_stand, given_are_first, items_are_one, items_exist,
+    length_is_known, replies_are_joined,
 };
 pub use replies::cut_reply;
 pub use side::Side;

@@ -2,7 +2,7 @@
 
 ghost use Rattle.std.specs.Prelude.{◌≡◌, ◌+◌, ◌<◌, ◌≤◌, ◌^◌, ◌-◌, All, IfOk, length};
 ghost use Rattle.rpc_pdu.specs.Encoding.{CanSpell};
-ghost use Rattle.rpc_calls.specs.Cutting.{CutInto, response_piece};
+ghost use Rattle.rpc_calls.specs.Cutting.{reply_pieces, response_piece};
 
 use rpc_pdu::{Head, Pdu};
 use std::alloc::{AllocError, Global};
@@ -24,7 +24,7 @@ pub fn cut_reply(
     requires least { 1432 ≤ max_xmit }
     requires greatest { max_xmit ≤ 5840 }
     requires size { length stub.now < 2 ^ 32 }
-    ensures cut { IfOk result (λ pdus. CutInto (response_piece call_id context) (max_xmit - 24) 1 stub.now pdus.items) }
+    ensures cut { IfOk result (λ pdus. pdus.items ≡ reply_pieces call_id context (max_xmit - 24) stub.now) }
     ensures spells { IfOk result (λ pdus. All CanSpell pdus.items) }
 {
     let most = max_xmit as usize - FRONT_LENGTH;

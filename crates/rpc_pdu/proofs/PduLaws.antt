@@ -1,6 +1,9 @@
 -- Bytes are read as the PDU that they spell, and as nothing where they spell none.
-use Rattle.std.proofs.Common.{◌≡◌, ℕ, List, slice_index, drop, Option, Some, None, Result, Ok, Err, refl, sym, ◌∙◌, subst, inl, inr}
+use Rattle.std.proofs.Common.{◌≡◌, ℕ, ◌<◌, List, [], ◌∷◌, length, slice_index, drop, Option, Some, None, Result, Ok, Err, refl, sym, ◌∙◌, subst, inl, inr}
 use Rattle.std.specs.Prelude.{IfOk, IfErr}
+use Rattle.std.specs.List.{AllByRecursion}
+use Rattle.wire_fields.specs.declared.endian.Endian.{Endian}
+use Rattle.wire_fields.specs.Lists.{IsList}
 use Rattle.wire_fields.specs.Numbers.{IsBytes}
 use Rattle.wire_fields.specs.Reading.{Reading}
 use Rattle.wire_fields.proofs.FieldLaws.{at, bind_some, some_is}
@@ -12,7 +15,9 @@ use Rattle.rpc_pdu.specs.declared.pdu_fault.PduFault.{PduFault}
 use Rattle.rpc_pdu.specs.declared.pdu_fault.PduFault.TheVariants as faults
 use Rattle.rpc_pdu.specs.declared.pdu_type.PduType.{PduType}
 use Rattle.rpc_pdu.specs.declared.pdu_type.PduType.TheVariants as types
-use Rattle.rpc_pdu.specs.Grammar.{IsBody, IsPdu, MayFail, PduBad}
+use Rattle.rpc_pdu.specs.declared.proposal.Proposal.{Proposal}
+use Rattle.rpc_pdu.specs.Encoding.{CountsFit}
+use Rattle.rpc_pdu.specs.Grammar.{IsBody, IsPdu, IsProposal, MayFail, PduBad}
 use Rattle.rpc_pdu.specs.Header.{IsHeader, head_at, header_fault}
 use Rattle.rpc_pdu.specs.PduTypes.{head_in, type_of, type_with}
 use Rattle.rpc_pdu.specs.Reading.{Decodes, behind_header, bind_ack_at, bind_at, body_at, body_of, or_short, pdu_at}
@@ -105,6 +110,30 @@ pdu_read bytes p is =
     let body = body_read p (drop 16 bytes) is.body in
     rw (passed, known, head-is, body) refl
 
+-- ---- counts
+
+each_few : (e : Endian) (proposals : List Proposal) (text : List ℕ) → IsList (IsProposal e) proposals text → AllByRecursion (λ p. length p.transfers < 256) proposals
+each_few e [] text listed = tt
+each_few e (p ∷ proposals) text (front, rest, cut, (reserved, interface, transfers, a, b, c, d, few, f), others) = (few, each_few e proposals rest others)
+
+-- Each list of a PDU that bytes spell was counted in them.
+pub counts_fit : (bytes : List ℕ) (p : Pdu) → IsPdu bytes p → CountsFit p
+counts_fit bytes (Bind head xmit recv group proposals) is =
+    let (reserved, contexts, a, listed, b, c, d, few, f) = is.body in (few, each_few head.endian proposals contexts listed)
+counts_fit bytes (AlterContext head xmit recv group proposals) is =
+    let (reserved, contexts, a, listed, b, c, d, few, f) = is.body in (few, each_few head.endian proposals contexts listed)
+counts_fit bytes (BindAck head xmit recv group address verdicts) is =
+    let (padding, reserved, outcomes, a, b, c, d, e, f, short, few, g) = is.body in (short, few)
+counts_fit bytes (AlterContextResp head xmit recv group address verdicts) is =
+    let (padding, reserved, outcomes, a, b, c, d, e, f, short, few, g) = is.body in (short, few)
+counts_fit bytes (BindNak head reason versions) is = let (listed, behind, a, b, few, c) = is.body in few
+counts_fit bytes (Request head hint context opnum object stub) is = tt
+counts_fit bytes (Response head hint context cancels stub) is = tt
+counts_fit bytes (Fault head hint context cancels status) is = tt
+counts_fit bytes (Shutdown head) is = tt
+counts_fit bytes (CoCancel head) is = tt
+counts_fit bytes (Orphaned head) is = tt
+
 -- ---- faults
 
 short_err : (read : Option Pdu) (fault : PduFault) → or_short read ≡ Err fault → fault ≡ faults.BadLength
@@ -134,6 +163,10 @@ pdu_bad bytes fault e =
 pub decode_found : (bytes : List ℕ) (r : Result Pdu PduFault) → IsBytes bytes → Decodes r (pdu_at bytes) → IfOk r (λ p. IsPdu bytes p)
 decode_found bytes (Ok p) h e = pdu_found bytes p h e
 decode_found bytes (Err fault) h e = tt
+
+pub decode_counts : (bytes : List ℕ) (r : Result Pdu PduFault) → IfOk r (λ p. IsPdu bytes p) → IfOk r CountsFit
+decode_counts bytes (Ok p) is = counts_fit bytes p is
+decode_counts bytes (Err fault) is = tt
 
 pub decode_only : (bytes : List ℕ) (r : Result Pdu PduFault) → Decodes r (pdu_at bytes) → (p : Pdu) → IsPdu bytes p → Decodes r (Ok p)
 decode_only bytes r e p is = subst (Decodes r) (pdu_read bytes p is) e

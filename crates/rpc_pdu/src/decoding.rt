@@ -2,6 +2,7 @@
 
 ghost use Rattle.std.specs.Prelude.{IfErr, IfOk, Ok};
 ghost use Rattle.rpc_pdu.specs.declared.pdu.Pdu.{Pdu};
+ghost use Rattle.rpc_pdu.specs.Encoding.{CountsFit};
 ghost use Rattle.rpc_pdu.specs.Grammar.{IsPdu, MayFail};
 ghost use Rattle.rpc_pdu.specs.Reading.{Decodes, pdu_at};
 
@@ -16,6 +17,7 @@ use wire_fields::Fields;
 /// they fail names the fault: those of the header in their order, then the length of the body.
 pub fn decode(alloc: Global, bytes: &[u8]) -> Result<Pdu, PduFault>
     ensures found { IfOk result (λ pdu. IsPdu bytes.now pdu) }
+    ensures counts { IfOk result CountsFit }
     // No other PDU is read from these bytes, and it is read unless memory runs out.
     ensures only { (pdu : Pdu) → IsPdu bytes.now pdu → Decodes result (Ok pdu) }
     ensures fault { IfErr result (λ fault. MayFail bytes.now fault) }

@@ -1,11 +1,10 @@
 use Rattle.std.proofs.Common.{true, false, refl}
-use Rattle.clus_cli.proofs.DrainLaws.{begins, carries_on, ends_closed, ends_waiting, stays_then, still_some}
+use Rattle.clus_cli.proofs.DrainLaws.{begins, carries_on, ends_closed, ends_waiting, stays_then}
 use Rattle.clus_cli.proofs.connection.drain.Goals as goal
 
 pub items-init : goal.items-init
 items-init c = rw c.new-replies.ensures.items (record {
   carries = begins c.args.intake.now c.args.server.now;
-  some = c.requires;
   stays = record { side = refl; length = refl };
 })
 
@@ -25,6 +24,5 @@ items-preserved c =
     c.items.invariant.carries c.in-Answered.ensures.reacts in
     rw (c.in_ok-extend_from_slice-in-Answered.ensures.items, c.deref.ensures.value) (record {
       carries = carries;
-      some = still_some _ _ _ _ _ c.requires carries;
       stays = stays_then _ _ _ c.items.invariant.stays c.in-Answered.ensures.stays;
     })

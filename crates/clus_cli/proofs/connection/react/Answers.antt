@@ -1,10 +1,9 @@
 use Rattle.rpc_calls.specs.declared.intake_fault.IntakeFault.TheVariants as faults
-use Rattle.clus_cli.proofs.DrainLaws.{item_few, reacts_fault, reacts_item, reacts_none}
+use Rattle.clus_cli.proofs.DrainLaws.{reacts_fault, reacts_item, reacts_none}
 use Rattle.clus_cli.proofs.connection.react.Goals as goal
 
 pub answer-requires : goal.answer-requires
-answer-requires c =
-    item_few c.args.intake.now c.next.new.self c.in-Ok-Some.item c.requires (rw c.in-Ok-Some.field-0-is at c.in-Ok-Some.ensures.gives)
+answer-requires c = rw c.in-Ok-Some.field-0-is at c.in-Ok-Some.ensures.few
 
 pub returns-in-Ok-Some-clause-reacts : goal.returns-in-Ok-Some-clause-reacts
 returns-in-Ok-Some-clause-reacts c =

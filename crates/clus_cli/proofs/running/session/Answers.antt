@@ -2,7 +2,7 @@ use Rattle.std.proofs.Common.{arith}
 use Rattle.rpc_calls.specs.declared.side.Side.TheVariants.{Server}
 use Rattle.rpc_calls.proofs.HoldingLaws.{holds_nothing}
 use Rattle.registry_server.specs.Servers.{new_server}
-use Rattle.clus_cli.proofs.ServeLaws.{Serving, breaks_off, closes, feeds, rests, some_stream, starts, stops}
+use Rattle.clus_cli.proofs.ServeLaws.{Serving, breaks_off, closes, feeds, rests, starts, stops}
 use Rattle.clus_cli.proofs.SessionLaws.{Told, ToldInPart, all_is_some, closed, done_at, in_part, not_begun, nothing_yet, reads_more, writes_more, writes_some}
 use Rattle.clus_cli.proofs.running.session.Goals as goal
 
@@ -41,18 +41,6 @@ returns-in-Err-drain-clause-written g c =
     in_part (g.S.Source.left c.args.input.now) (g.S.Source.left c.pieces.input) (g.K.Sink.written c.args.output.now) (g.K.Sink.written c.pieces.output) c.pieces.server
     (stops (new_server 1) _ _ c.pieces.intake c.pieces.server c.pieces.taken c.pieces.invariant.resting.serving
     (all_is_some (g.S.Source.left c.args.input.now) (g.S.Source.left c.pieces.input) (g.K.Sink.written c.args.output.now) (g.K.Sink.written c.pieces.output)))
-
-pub drain-requires : goal.drain-requires
-drain-requires g c =
-    let takes = c.in-Piece.ensures.takes in
-    let first = g.S.Source.left c.args.input.now in
-    let left = g.S.Source.left c.take_piece.new.input in
-    let held = g.K.Sink.written c.args.output.now in
-    let mid = g.K.Sink.written c.pieces.output in
-    let serving : Serving (new_server 1) (Told first left held mid) c.take_piece.new.intake c.pieces.server c.take_piece.new.taken =
-    feeds (new_server 1) (Told first (g.S.Source.left c.pieces.input) held mid) (Told first left held mid) c.pieces.intake c.take_piece.new.intake c.pieces.server c.pieces.taken c.take_piece.new.taken takes.0
-    c.pieces.invariant.resting.serving (reads_more first (g.S.Source.left c.pieces.input) left held mid takes.0 takes.1) takes.2.1 takes.2.2 takes.2.3 in
-    some_stream (new_server 1) (Told first left held mid) c.take_piece.new.intake c.pieces.server c.take_piece.new.taken serving
 
 pub returns-in-Err-write_whole-clause-written : goal.returns-in-Err-write_whole-clause-written
 returns-in-Err-write_whole-clause-written g c =

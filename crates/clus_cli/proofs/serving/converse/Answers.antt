@@ -2,7 +2,7 @@ use Rattle.std.proofs.Common.{rules}
 use Rattle.rpc_calls.specs.declared.side.Side.TheVariants.{Server}
 use Rattle.rpc_calls.proofs.HoldingLaws.{holds_nothing}
 use Rattle.clus_cli.proofs.DoorLaws.{DoorTells, TellsBeyond, TellsBroken, TellsUnread, cut_short, door_beyond, door_breaks, door_reads, door_sends, door_unread, not_beyond, nothing_told, over_at_end, over_closed, over_unread, over_unsent}
-use Rattle.clus_cli.proofs.ServeLaws.{Serving, breaks_off, closes, feeds, rests, some_stream, starts, stops}
+use Rattle.clus_cli.proofs.ServeLaws.{Serving, breaks_off, closes, feeds, rests, starts, stops}
 use Rattle.clus_cli.proofs.serving.converse.Goals as goal
 
 pub pieces-init : goal.pieces-init
@@ -34,18 +34,6 @@ returns-in-NoMemory-clause-converses g c =
     cut_short first now c.args.server.now c.pieces.server c.pieces.server
     (stops c.args.server.now (DoorTells first before) (TellsBeyond first now) c.pieces.intake c.pieces.server c.pieces.taken c.pieces.invariant.resting.serving
     (door_beyond first before now receives.0 receives.1))
-
-pub drain-requires : goal.drain-requires
-drain-requires g c =
-    let receives = c.in-Piece.ensures.receives in
-    let first = g.G.Door.visits c.args.door.now in
-    let before = g.G.Door.visits c.pieces.door in
-    let now = g.G.Door.visits c.receive.new.door in
-    let origin = c.args.server.now in
-    let serving : Serving origin (DoorTells first now) c.receive.new.intake c.pieces.server c.receive.new.taken =
-    feeds origin (DoorTells first before) (DoorTells first now) c.pieces.intake c.receive.new.intake c.pieces.server c.pieces.taken c.receive.new.taken receives.0
-    c.pieces.invariant.resting.serving (door_reads first before now receives.0 receives.1) receives.2.1 receives.2.2 receives.2.3 in
-    some_stream origin (DoorTells first now) c.receive.new.intake c.pieces.server c.receive.new.taken serving
 
 pub returns-in-Err-clause-converses : goal.returns-in-Err-clause-converses
 returns-in-Err-clause-converses g c =

@@ -1,5 +1,5 @@
 use Rattle.std.proofs.Common.{sym, subst, ◌∙◌}
-use Rattle.clusapi_stubs.specs.Outputs.{IsText}
+use Rattle.clusapi_methods.specs.Sizes.{IsShortText}
 use Rattle.clusapi_methods.proofs.NameTexts.{data_text, text_told}
 use Rattle.clusapi_methods.proofs.names.cluster_name.Goals as goal
 
@@ -9,4 +9,4 @@ returns-clause-name c =
     c.new-in-Some.ensures ∙ c.in_ok-text_in-in-Some.ensures ∙ text_told _ _ _ found
 
 pub returns-clause-text : goal.returns-clause-text
-returns-clause-text c = subst IsText (sym (c.new-in-Some.ensures ∙ c.in_ok-text_in-in-Some.ensures)) (data_text c.in-Some.bytes.now c.in-Some.ensures.short)
+returns-clause-text c = subst IsShortText (sym (c.new-in-Some.ensures ∙ c.in_ok-text_in-in-Some.ensures)) (data_text c.in-Some.bytes.now c.in-Some.ensures.short)

@@ -4,8 +4,8 @@ use Rattle.clusapi_methods.specs.Checked.{IsFit}
 use Rattle.clusapi_methods.proofs.Checks.{some_parts}
 use Rattle.clusapi_methods.proofs.updating.delete_key.Goals as goal
 
-pub returns-clause-follows : goal.returns-clause-follows
-returns-clause-follows c =
+pub returns-clause-bounded : goal.returns-clause-bounded
+returns-clause-bounded c =
     let fit : IsFit c.args.held.now.path c.args.below.now c.in-Ok.path = rw c.in-Ok.is at c.in_ok-path.ensures in
     let there : 0 < length c.as_slice.result.now = grind (arith, nat_tests) in
     let some : 0 < length c.args.below.now = rw c.as_slice.ensures at there in

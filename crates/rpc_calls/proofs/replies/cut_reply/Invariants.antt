@@ -1,14 +1,13 @@
-use Rattle.std.proofs.Common.{◌-◌, ◌≤◌, List, ◌++◌, drop, length}
-use Rattle.rpc_pdu.specs.declared.pdu.Pdu.{Pdu}
-use Rattle.rpc_calls.specs.Cutting.{CutInto, response_piece}
+use Rattle.std.proofs.Common.{◌≡◌, ◌-◌, ◌≤◌, ◌++◌, drop, length}
+use Rattle.rpc_calls.specs.Cutting.{cut_by, reply_pieces, response_piece}
 use Rattle.rpc_calls.proofs.replies.cut_reply.Given as goal
 
 abbrev pub invariant-pieces : goal.invariant-pieces
 invariant-pieces l = record {
   within : l.place ≤ length l.stub;
   flag : l.first ≤ 1;
-  completes : (more : List Pdu) → CutInto (response_piece l.call_id l.context) (l.max_xmit - 24) l.first (drop l.place l.stub) more
-      → CutInto (response_piece l.call_id l.context) (l.max_xmit - 24) 1 l.stub (l.pdus.items ++ more);
+  cut : l.pdus.items ++ cut_by (response_piece l.call_id l.context) (l.max_xmit - 24) l.first (drop l.place l.stub)
+      ≡ reply_pieces l.call_id l.context (l.max_xmit - 24) l.stub;
 }
 
 abbrev pub decreases-pieces : goal.decreases-pieces

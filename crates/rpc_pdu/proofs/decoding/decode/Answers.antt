@@ -1,5 +1,5 @@
 use Rattle.std.proofs.Common.{arith}
-use Rattle.rpc_pdu.proofs.PduLaws.{decode_fault, decode_found, decode_only}
+use Rattle.rpc_pdu.proofs.PduLaws.{decode_counts, decode_fault, decode_found, decode_only}
 use Rattle.rpc_pdu.proofs.decoding.decode.Goals as goal
 
 pub returns-clause-found : goal.returns-clause-found
@@ -10,3 +10,6 @@ returns-clause-only c = λ pdu is. decode_only c.args.bytes.now c.read.result c.
 
 pub returns-clause-fault : goal.returns-clause-fault
 returns-clause-fault c = decode_fault c.args.bytes.now c.read.result c.read.ensures
+
+pub returns-clause-counts : goal.returns-clause-counts
+returns-clause-counts c = decode_counts c.args.bytes.now c.read.result (returns-clause-found c)

@@ -10,7 +10,7 @@ invariant_of-self-2 c =
     let table = c.self.inside in
     record {
       given = rw (c.in_ok-insert.ensures.entries, insert_last table.serials entry table.entries.entries c.self.invariant.given) (more_given table.serials entry table.entries.entries c.self.invariant.given);
-      few = let same : table.serials ≡ c.args.self.now.serials = ap (λ (t : Table). t.serials) c.self.view_is in omega (arith, c.requires.serial);
+      few = let same : table.serials ≡ c.args.self.now.serials = ap (λ (t : Table). t.serials) c.self.view_is in omega (arith, c.requires);
     }
 
 pub returns-clause-opened : goal.returns-clause-opened
