@@ -9,6 +9,7 @@
 //! [`TcpDoor`] those that come to a TCP address, which is trusted too.
 #![tactic(auto)]
 
+mod again;
 mod bytes_sink;
 mod bytes_source;
 mod door;
