@@ -1,4 +1,5 @@
 pub mod Plan
 pub mod Reading
 pub mod Supply
+pub mod Tcp
 pub mod Visits

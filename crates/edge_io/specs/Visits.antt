@@ -90,11 +90,6 @@ pub record Faults : Type 0 where
 abbrev pub no_faults : Faults
 no_faults = record { accept = 0; read = 0; write = 0 }
 
--- No count but that of accept changed.
-pub record AcceptsOnly (old now : Faults) : Type 0 where
-  pub read : now.read ≡ old.read
-  pub write : now.write ≡ old.write
-
 -- ---- a door in memory
 
 pub record Script : Type 0 where

@@ -5,10 +5,13 @@
 //! where a test asks for it, and [`SureSource`] and [`SureSink`], whose calls never fail.
 //! [`StdSource`] and [`StdSink`] stand over std's readers and writers and are trusted.
 //!
+//! [`StandardStreams`] keeps the descriptors of streams that were closed from files and connections.
+//!
 //! A [`Door`] hands out connections one after another: [`ScriptDoor`] those that a test lists, and
 //! [`TcpDoor`] those that come to a TCP address, which is trusted too.
 #![tactic(auto)]
 
+mod again;
 mod bytes_sink;
 mod bytes_source;
 mod door;
@@ -19,6 +22,7 @@ mod script_door;
 mod script_visit;
 mod sink;
 mod source;
+mod standard;
 mod std_sink;
 mod std_source;
 mod sure_sink;
@@ -37,6 +41,7 @@ pub use script_door::ScriptDoor;
 pub use script_visit::ScriptVisit;
 pub use sink::Sink;
 pub use source::Source;
+pub use standard::StandardStreams;
 pub use std_sink::StdSink;
 pub use std_source::StdSource;
 pub use sure_sink::SureSink;

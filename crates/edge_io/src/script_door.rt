@@ -1,4 +1,4 @@
-ghost use Rattle.std.specs.Prelude.{◌≡◌, ◌<◌, ℕ, List, [], ◌∷◌, ◌++◌, length, Some, IsErr, IfOk, IsTrue, Option, map, vec_capacity};
+ghost use Rattle.std.specs.Prelude.{◌≡◌, ◌<◌, ◌||◌, ℕ, List, [], ◌∷◌, ◌++◌, length, Some, IsErr, IfOk, IsTrue, Option, is_err, is_none, map, vec_capacity};
 ghost use Rattle.std.specs.Io.{ReadsAtMost, WritesAtMost};
 ghost use Rattle.causes.specs.Counts.{HasCause};
 ghost use Rattle.causes.specs.Writing.{TakesSome};
@@ -101,7 +101,8 @@ impl Door for ScriptDoor {
         ensures accepts { self.new.faults.accept ≡ self.old.faults.accept }
         ensures cause { HasCause self.old.faults.read self.new.faults.read result }
         ensures writes { self.new.faults.write ≡ self.old.faults.write }
-        ensures listed { IsTrue (next_fails self.old.plan) → IsErr result }
+        // Just the listed calls fail, and those without a connection.
+        ensures listed { is_err result ≡ (next_fails self.old.plan || is_none self.old.visits.present) }
         ensures counts { Counts self.old.plan self.new.plan }
     {
         let is_listed = self.plan.call().is_err();

@@ -1,9 +1,11 @@
 ghost use Rattle.std.specs.Prelude.{◌≡◌, ℕ, None};
 
+use crate::again::write_again;
 use crate::{Failed, Sink};
 use std::io::Write;
 
-/// A std writer as a sink. It doesn't tell what was written.
+/// A std writer as a sink. It doesn't tell what was written. A write that a signal interrupts is tried
+/// again.
 #[derive(Debug, Drop)]
 pub struct StdSink<W> {
     writer: W,
@@ -24,7 +26,7 @@ impl<W: Write> Sink for StdSink<W> {
     ghost faults = { λ s. s.faults };
 
     fn write(&mut self, bytes: &[u8]) -> Result<usize, Failed> {
-        match self.writer.write(bytes) {
+        match write_again(&mut self.writer, bytes) {
             Ok(count) if 0 < count || bytes.is_empty() => Ok(count),
             _ => {
                 self.faults = self.faults.saturating_add(1);

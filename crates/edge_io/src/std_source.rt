@@ -1,9 +1,11 @@
 ghost use Rattle.std.specs.Prelude.{◌≡◌, ℕ};
 
+use crate::again::read_again;
 use crate::{Failed, Source};
 use std::io::Read;
 
-/// A std reader as a source. It tells what its reader tells.
+/// A std reader as a source. It tells what its reader tells. A read that a signal interrupts is tried
+/// again.
 #[derive(Debug, Drop)]
 pub struct StdSource<R> {
     reader: R,
@@ -25,7 +27,7 @@ impl<R: Read> Source for StdSource<R> {
     ghost faults = { λ s. s.faults };
 
     fn read(&mut self, into: &mut [u8]) -> Result<usize, Failed> {
-        match self.reader.read(into) {
+        match read_again(&mut self.reader, into) {
             Ok(count) => Ok(count),
             Err(_) => {
                 self.faults = self.faults.saturating_add(1);
