@@ -223,6 +223,16 @@ def fault(reader):
 def describe_pdu(title, data, base, calls):
     reader = Reader(data, base)
     print(f"\n{title}, {len(data)} bytes")
+    try:
+        describe_fields(reader, calls)
+    except ValueError as fault:
+        print(f"        {fault}")
+    if reader.at < len(data):
+        begin, reader.at = reader.at, len(data)
+        reader.show(begin, f"the rest: {len(data) - begin} bytes")
+
+
+def describe_fields(reader, calls):
     kind, flags, call_id = header(reader)
     if kind in (11, 14):
         bind(reader)
@@ -236,9 +246,6 @@ def describe_pdu(title, data, base, calls):
         response(reader, flags, call_id, calls)
     elif kind == 3:
         fault(reader)
-    if reader.at < len(data):
-        begin, reader.at = reader.at, len(data)
-        reader.show(begin, f"the rest: {len(data) - begin} bytes")
 
 
 def pdus_of(stream):
