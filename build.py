@@ -219,6 +219,20 @@ def install(made, sources):
     RECORD.write_text(record_of(sources))
 
 
+def build_in_turn(crates, listed, sources):
+    """Builds the program, unless another call is doing so: then that one's is waited for."""
+    work = work_folder()
+    work.mkdir(parents=True, exist_ok=True)
+    with open(work / "lock", "w") as lock:
+        try:
+            fcntl.flock(lock, fcntl.LOCK_EX | fcntl.LOCK_NB)
+        except BlockingIOError:
+            tell("another build of these sources is under way; waiting for it")
+            fcntl.flock(lock, fcntl.LOCK_EX)
+        if not is_current(sources):
+            build(crates, listed, work, sources)
+
+
 def take_streams():
     """A standard stream that is closed would be the number of the next file that is opened."""
     for number in range(3):
@@ -239,17 +253,13 @@ def main():
                 "the program isn't built, and there is no command `rt` on the PATH to build it with. Install the Rattle "
                 f"toolchain ({KIT}) and Python 3.8 or later, and put the toolchain's folder bin on the PATH."
             )
-        work = work_folder()
-        work.mkdir(parents=True, exist_ok=True)
-        with open(work / "lock", "w") as lock:
-            try:
-                fcntl.flock(lock, fcntl.LOCK_EX | fcntl.LOCK_NB)
-            except BlockingIOError:
-                tell("another build of these sources is under way; waiting for it")
-                fcntl.flock(lock, fcntl.LOCK_EX)
-            if not is_current(sources):
-                build(crates, listed, work, sources)
+        build_in_turn(crates, listed, sources)
     os.write(1, f"{PROGRAM}\n".encode())
 
 
-main()
+try:
+    main()
+except OSError as error:
+    fail(f"the program could not be built: {error}")
+except KeyboardInterrupt:
+    fail("the build was interrupted; what was proved is kept for the next one")
