@@ -195,7 +195,8 @@ def build(crates, listed, work, sources):
     log_path = work / "build.log"
     count = processors()
     tell(f"the program isn't built from these sources yet: {len(crates)} crates are to be proved first")
-    tell(f"a first build takes about {-(-PROCESSOR_MINUTES // count)} minutes on {count} free processors; later ones prove what changed")
+    minutes = -(-PROCESSOR_MINUTES // count)
+    tell(f"a first build takes about {minutes} minutes on {count} free processors; later ones prove what changed")
     tell(f"the work is in {work}, the log of it in {log_path}")
     (work / "crates").mkdir(exist_ok=True)
     with open(log_path, "w") as log:
@@ -250,8 +251,8 @@ def main():
     if not is_current(sources):
         if shutil.which("rt") is None:
             fail(
-                "the program isn't built, and there is no command `rt` on the PATH to build it with. Install the Rattle "
-                f"toolchain ({KIT}) and Python 3.8 or later, and put the toolchain's folder bin on the PATH."
+                "the program isn't built, and there is no command `rt` on the PATH to build it with. Install the "
+                f"Rattle toolchain ({KIT}) and Python 3.8 or later, and put the toolchain's folder bin on the PATH."
             )
         build_in_turn(crates, listed, sources)
     os.write(1, f"{PROGRAM}\n".encode())

@@ -16,7 +16,8 @@ TYPES = {
 INTERFACES = {"b97db8b2-4c63-11cf-bff6-08002be23f2f": "ClusAPI", "8a885d04-1ceb-11c9-9fe8-08002b104860": "NDR"}
 STATUSES = {
     0: "success", 2: "file not found", 70: "the node isn't open", 87: "invalid parameter", 112: "disk full",
-    161: "bad path name", 234: "more data", 259: "no more items", 1018: "key deleted", 1020: "key has children", 1783: "bad stub data",
+    161: "bad path name", 234: "more data", 259: "no more items", 1018: "key deleted", 1020: "key has children",
+    1783: "bad stub data",
     0x1C00001A: "context mismatch", 0x1C010002: "operation number out of range", 0x1C010003: "unknown interface",
 }
 # Of each method its name, its parameters and its results.
