@@ -14,8 +14,8 @@ import time
 
 import client
 
-PORT = 47310
-ECHO_PORT = 47311
+PORT = 27310
+ECHO_PORT = 27311
 SECONDS = 2.0
 
 ECHO = r"""
