@@ -98,7 +98,7 @@ module _ (u : Update) (valid : IsUpdate u) where
   both_apply = refl
 
   -- Readers of node 2 are answered before its record reached it, and after; so is the update itself.
-  abbrev place_of_point : List Point → List ℕ
+  abbrev place_of_point : List (Point tally) → List ℕ
   place_of_point [] = []
   place_of_point (p ∷ ps) = p.place ∷ place_of_point ps
 
