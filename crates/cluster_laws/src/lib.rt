@@ -5,7 +5,7 @@
 
 ghost use Rattle.std.specs.Prelude.{◌≡◌, ◌++◌, ℕ, Bool, List};
 ghost use Rattle.cluster_rules.specs.Machines.{Machine, IsMachine};
-ghost use Rattle.cluster_rules.specs.Promises.{Kept, Recovers, Safe, Steady};
+ghost use Rattle.cluster_rules.specs.Promises.{Answered, Kept, Recovers, Safe, Steady};
 ghost use Rattle.update_records.specs.Entry.{Entry};
 ghost use Rattle.cluster_rules.specs.Worlds.{Event, opening, run};
 
@@ -33,6 +33,12 @@ pub fn kept<R: Replicated>()
 /// places of its acknowledged updates, nor the one behind the other.
 pub fn steady<R: Replicated>()
     ensures { (cap : ℕ) (events : List Event) → R.machine.IsCap cap → Steady (run events (opening R.machine cap)) }
+{}
+
+/// Each client of an update is told the place of its own record and what that record comes to there, and the requests of
+/// an incarnation are answered in their order, each once and none left out.
+pub fn answered<R: Replicated>()
+    ensures { (cap : ℕ) (events : List Event) → R.machine.IsCap cap → Answered (run events (opening R.machine cap)) }
 {}
 
 /// The order only grows: no record of it is ever replaced or lost.
