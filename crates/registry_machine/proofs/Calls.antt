@@ -6,8 +6,14 @@ use Rattle.registry_defs.specs.StateFields.{Stop}
 use Rattle.registry_defs.specs.StateGrammar.{state_of}
 use Rattle.registry_states.specs.States.{IsFaultAt}
 use Rattle.registry_machine.specs.Machine.{record_applied, registry_below, registry_decoded}
-use Rattle.registry_machine.specs.Laws.{AppliesAsMachine, ReadsAsMachine, FailsAsMachine}
+use Rattle.registry_machine.specs.Laws.{AppliesAsMachine, BeginsAsMachine, EncodesAsMachine, ReadsAsMachine, FailsAsMachine}
 use Rattle.registry_machine.proofs.Instance.{encoded_is_decoded}
+
+pub begins_as_machine : BeginsAsMachine
+begins_as_machine cap registry caps keys = λ i. record { cap = caps i; keys = keys i }
+
+pub encodes_as_machine : EncodesAsMachine
+encodes_as_machine registry bytes is = is
 
 pub applies_as_machine : AppliesAsMachine
 unfolding record_applied

@@ -3,4 +3,5 @@ pub mod Orders
 pub mod Instance
 pub mod Folds
 pub mod Calls
+pub mod TextBytes
 pub mod Runs

@@ -1,7 +1,7 @@
 //! What follows from the definitions, each law as the contract of a function that does nothing.
 
 ghost use Rattle.cluster_rules.specs.Machines.{IsMachine};
-ghost use Rattle.registry_machine.specs.Laws.{AppliesAsMachine, FailsAsMachine, OrderKeeps, ReadsAsMachine, ReplayIsFold};
+ghost use Rattle.registry_machine.specs.Laws.{AppliesAsMachine, BeginsAsMachine, EncodesAsMachine, EncodingIsBytes, FailsAsMachine, OrderKeeps, ReadsAsMachine, ReplayIsFold};
 ghost use Rattle.registry_machine.specs.Machine.{registry_machine};
 
 /// The registry is such a machine as the protocol replicates.
@@ -9,9 +9,10 @@ pub fn registry_is_a_machine()
     ensures { IsMachine registry_machine }
 {}
 
-/// Behind each order of records that fit a registry obeys all limits, and its encoding is no longer than its cap.
+/// Behind each order of records that fit a registry obeys all limits, and its encoding is bytes, no more than its cap.
 pub fn order_keeps_the_limits()
-    ensures { OrderKeeps }
+    ensures limits { OrderKeeps }
+    ensures bytes { EncodingIsBytes }
 {}
 
 /// Records at their places make the registry that the update order makes by the definitions.
@@ -19,9 +20,11 @@ pub fn replay_is_the_fold()
     ensures { ReplayIsFold }
 {}
 
-/// What `Registry::apply`, `Registry::from_bytes` and `StateBuild::finish` make is what the machine says.
+/// What the calls of `Registry` and of `StateBuild` make is what the machine says.
 pub fn calls_do_as_the_machine()
+    ensures begins { BeginsAsMachine }
     ensures apply { AppliesAsMachine }
+    ensures encoded { EncodesAsMachine }
     ensures read { ReadsAsMachine }
     ensures refused { FailsAsMachine }
 {}
