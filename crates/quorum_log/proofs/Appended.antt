@@ -1,14 +1,14 @@
 -- The four calls of `append`, on a disk that holds a log.
-use Rattle.std.proofs.Common.{◌≡◌, ◌≢◌, ℕ, ◌+◌, ◌-◌, ◌<◌, ◌≤◌, ◌⊎◌, inl, inr, IsTrue, not, ◌==◌, List, [], ◌∷◌, ◌++◌, length, get_or, Result, Ok, Err, IsOk, refl, sym, ap, ◌∙◌, subst, arith, length-append}
+use Rattle.std.proofs.Common.{◌≡◌, ℕ, ◌+◌, ◌<◌, ◌≤◌, inl, inr, IsTrue, List, [], ◌∷◌, length, get_or, Result, Err, IsOk, refl, sym, subst, arith, length-append}
 use Rattle.std.specs.Prelude.{⊤}
 use Rattle.disk_core.specs.declared.fault.DiskFault.{DiskFault}
-use Rattle.disk_core.specs.Images.{Moment, Has, SameOutside, EachImage}
+use Rattle.disk_core.specs.Images.{EachImage}
 use Rattle.disk_core.specs.Views.{DiskView, Passes}
-use Rattle.disk_core.specs.Calls.{Call, write, sync, Made}
+use Rattle.disk_core.specs.Calls.{write, sync, Made}
 use Rattle.quorum_log.specs.declared.found.Found.{Found}
 use Rattle.quorum_log.specs.declared.found.FoundRecord.{FoundRecord}
 use Rattle.quorum_log.specs.Layout.{most_record, most_records}
-use Rattle.quorum_log.specs.Image.{Holds, commit_behind, end_of, other_of, list_at, tail_of}
+use Rattle.quorum_log.specs.Image.{Holds, end_of, other_of, list_at, tail_of}
 use Rattle.quorum_log.specs.Logs.{LogValue, StandsFor, Fits}
 use Rattle.quorum_log.specs.Changes.{framed_record, with_record, HoldsEither, IsInChange}
 use Rattle.quorum_log.proofs.Moments.{Put, pair, passes_trans, passes_both}

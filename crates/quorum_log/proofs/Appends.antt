@@ -1,16 +1,16 @@
 -- What the calls of `append` leave: the log as it was, or with the record.
-use Rattle.std.proofs.Common.{◌≡◌, ◌≢◌, ℕ, ◌+◌, ◌-◌, ◌*◌, ◌<◌, ◌≤◌, ◌⊎◌, inl, inr, List, [], ◌∷◌, ◌++◌, length, get_or, refl, sym, ap, ◌∙◌, subst, arith, length-append}
+use Rattle.std.proofs.Common.{◌≡◌, ◌≢◌, ℕ, ◌+◌, ◌-◌, ◌<◌, ◌≤◌, ◌⊎◌, inl, inr, List, [], ◌∷◌, ◌++◌, length, get_or, refl, sym, ap, ◌∙◌, arith, length-append}
 use Rattle.std.proofs.lemmas.Bool.{cases_eq}
 use Rattle.wire_fields.specs.declared.endian.Endian.TheVariants.{Little}
 use Rattle.wire_fields.specs.Numbers.{num}
 use Rattle.disk_core.specs.Images.{Has, SameOutside}
 use Rattle.quorum_log.specs.declared.found.Found.{Found}
 use Rattle.quorum_log.specs.declared.found.FoundRecord.{FoundRecord}
-use Rattle.quorum_log.specs.Layout.{half_size, half_at, most_record, most_records, next_generation, number_at}
-use Rattle.quorum_log.specs.Image.{Holds, IsFramed, IsCurrent, Listed, commit_behind, start_of, end_of, other_of, list_at, tail_of}
+use Rattle.quorum_log.specs.Layout.{half_size, half_at, most_record, most_records, next_generation}
+use Rattle.quorum_log.specs.Image.{Holds, IsFramed, IsCurrent, commit_behind, start_of, end_of, other_of, list_at, tail_of}
 use Rattle.quorum_log.specs.Changes.{framed_record, with_record, HoldsEither}
 use Rattle.quorum_log.proofs.Places.{SameWithin, same_number, has_number, has_window, has_left, has_right, has_one, has_kept, length-num, within_from, within_part, within_trans}
-use Rattle.quorum_log.proofs.Kept.{holds_by, kept_list, listed_push, behind-push, behind-le, tail_within}
+use Rattle.quorum_log.proofs.Kept.{holds_by, kept_list, listed_push, behind-push, behind-le}
 
 -- the halves lie apart
 pub apart : (cap half : ℕ) → (half ≡ 0) ⊎ (half ≡ 1) → (half_at cap (1 - half) + half_size cap ≤ half_at cap half) ⊎ (half_at cap half + half_size cap ≤ half_at cap (1 - half))

@@ -1,18 +1,18 @@
 -- The calls of `checkpoint`, on a disk that holds a log.
-use Rattle.std.proofs.Common.{◌≡◌, ◌≢◌, ℕ, ◌+◌, ◌-◌, ◌^◌, ◌<◌, ◌≤◌, ◌⊎◌, inl, inr, IsTrue, Bool, true, false, not, ◌==◌, List, [], ◌∷◌, ◌++◌, length, get_or, Result, Ok, Err, IsOk, refl, sym, ap, ◌∙◌, subst, arith, length-append}
+use Rattle.std.proofs.Common.{◌≡◌, ◌≢◌, ℕ, ◌+◌, ◌-◌, ◌^◌, ◌<◌, ◌≤◌, ◌⊎◌, inl, inr, IsTrue, Bool, true, false, not, ◌==◌, List, [], ◌∷◌, ◌++◌, length, get_or, Result, Ok, Err, IsOk, refl, sym, ap, ◌∙◌, subst, arith}
 use Rattle.std.specs.Prelude.{⊤}
 use Rattle.std.proofs.lemmas.Bool.Decides.{nat_tests}
 use Rattle.disk_core.specs.declared.fault.DiskFault.{DiskFault}
-use Rattle.disk_core.specs.Images.{Moment, Has, SameOutside, IsImage, EachImage}
+use Rattle.disk_core.specs.Images.{EachImage}
 use Rattle.disk_core.specs.Views.{DiskView, Passes}
 use Rattle.disk_core.specs.Calls.{Call, write, sync, Made}
 use Rattle.quorum_log.specs.declared.found.Found.{Found}
-use Rattle.quorum_log.specs.Layout.{half_at, most_record, most_records, next_generation}
-use Rattle.quorum_log.specs.Image.{Holds, start_of, other_of, list_at, tail_of}
+use Rattle.quorum_log.specs.Layout.{half_at, most_record, next_generation}
+use Rattle.quorum_log.specs.Image.{Holds, start_of, other_of}
 use Rattle.quorum_log.specs.Faults.{AnsweredBy}
 use Rattle.quorum_log.specs.Logs.{LogValue, StandsFor}
 use Rattle.quorum_log.specs.Changes.{half_text, with_checkpoint, closing, HoldsEither, IsInChange}
-use Rattle.quorum_log.proofs.Moments.{Put, pair, made_answer, passes_trans, passes_here, passes_both, images_weaken, settled_images}
+use Rattle.quorum_log.proofs.Moments.{pair, made_answer, passes_trans, passes_here, passes_both, images_weaken, settled_images}
 use Rattle.quorum_log.proofs.CallLaws.{HasToken, checkpoint_carries, made_token}
 use Rattle.quorum_log.proofs.Places.{has_one}
 use Rattle.quorum_log.proofs.Halves.{other_back}

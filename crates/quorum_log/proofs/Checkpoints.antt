@@ -1,5 +1,5 @@
 -- What the calls of `checkpoint` leave: the one half as current, or the other.
-use Rattle.std.proofs.Common.{◌≡◌, ◌≢◌, ℕ, ◌+◌, ◌-◌, ◌*◌, ◌%◌, ◌^◌, ◌<◌, ◌≤◌, ◌⊎◌, inl, inr, List, [], ◌∷◌, ◌++◌, length, take, get_or, refl, sym, ap, ◌∙◌, subst, arith, append_assoc, length-append}
+use Rattle.std.proofs.Common.{◌≡◌, ◌≢◌, ℕ, ◌+◌, ◌-◌, ◌^◌, ◌<◌, ◌≤◌, inl, inr, List, [], ◌∷◌, ◌++◌, length, take, get_or, refl, sym, ap, ◌∙◌, arith, append_assoc, length-append}
 use Rattle.std.proofs.Math.Nat.{mod-lt}
 use Rattle.std.proofs.lemmas.Bool.{cases_eq}
 use Rattle.std.proofs.lemmas.Bool.Decides.{nat_tests}
@@ -7,14 +7,13 @@ use Rattle.wire_fields.specs.declared.endian.Endian.TheVariants.{Little}
 use Rattle.wire_fields.specs.Numbers.{num}
 use Rattle.disk_core.specs.Images.{Has, SameOutside}
 use Rattle.quorum_log.specs.declared.found.Found.{Found}
-use Rattle.quorum_log.specs.declared.found.FoundRecord.{FoundRecord}
-use Rattle.quorum_log.specs.Layout.{half_size, half_at, image_size, most_record, most_records, next_generation, number_at, second_version, version_of, base_of}
-use Rattle.quorum_log.specs.Image.{Holds, IsHalf, IsCurrent, Listed, commit_behind, start_of, end_of, other_of, list_at, tail_of}
+use Rattle.quorum_log.specs.Layout.{half_size, half_at, most_record, most_records, next_generation, number_at, second_version, version_of, base_of}
+use Rattle.quorum_log.specs.Image.{Holds, IsHalf, IsCurrent, start_of, end_of, other_of, list_at, tail_of}
 use Rattle.quorum_log.specs.Changes.{half_text, with_checkpoint, HoldsEither}
 use Rattle.quorum_log.proofs.Places.{SameWithin, same_number, same_window, has_number, has_window, has_left, has_right, has_one, has_kept, length-num, within_from, within_part, within_trans}
 use Rattle.quorum_log.proofs.Kept.{holds_by, kept_list, behind-le, tail_within}
-use Rattle.quorum_log.proofs.Halves.{half_within, other_which, other_back}
-use Rattle.quorum_log.proofs.Appends.{apart, kept_current}
+use Rattle.quorum_log.proofs.Halves.{other_which, other_back}
+use Rattle.quorum_log.proofs.Appends.{apart}
 
 pub length-half_text : (generation base : ℕ) (state last : List ℕ) → length (half_text generation base state last) ≡ 25 + length state + length last
 length-half_text generation base state last =

@@ -1,27 +1,26 @@
 -- The calls of `format`, on a disk with any content.
-use Rattle.std.proofs.Common.{◌≡◌, ◌≢◌, ℕ, ◌+◌, ◌-◌, ◌<◌, ◌≤◌, ◌⊎◌, inl, inr, Bool, true, false, IsTrue, not, ◌==◌, nat_le, if◌then◌else◌, List, [], ◌∷◌, ◌++◌, length, take, get_or, Result, Ok, Err, IsOk, refl, sym, ap, ◌∙◌, subst, arith, append_assoc}
+use Rattle.std.proofs.Common.{◌≡◌, ◌≢◌, ℕ, ◌+◌, ◌<◌, ◌≤◌, ◌⊎◌, inl, inr, Bool, true, false, IsTrue, not, ◌==◌, nat_le, if◌then◌else◌, List, [], ◌∷◌, ◌++◌, length, take, get_or, Result, Ok, Err, IsOk, refl, sym, ap, ◌∙◌, subst, arith, append_assoc}
 use Rattle.std.specs.Prelude.{⊤}
 use Rattle.std.proofs.lemmas.Bool.{cases_eq}
 use Rattle.std.proofs.lemmas.Bool.Decides.{nat_tests}
-use Rattle.causes.specs.Counts.{Rose}
 use Rattle.disk_core.specs.declared.fault.DiskFault.{DiskFault}
 use Rattle.disk_core.specs.declared.fault.DiskFault.TheVariants.{Failed, Fenced}
 use Rattle.disk_core.specs.declared.span.Span.{Span}
 use Rattle.disk_core.specs.Images.{Moment, Has, SameOutside, IsFree, IsImage, EachImage}
 use Rattle.disk_core.specs.Views.{DiskView, Passes}
-use Rattle.disk_core.specs.Calls.{Call, write, sync, claim, Step, ReadStep, Made, SameDisk, Puts, Tears}
+use Rattle.disk_core.specs.Calls.{Call, write, sync, claim, Step, Made, SameDisk}
 use Rattle.quorum_log.specs.Layout.{half_at, image_size}
 use Rattle.quorum_log.specs.Image.{Holds}
 use Rattle.quorum_log.specs.Faults.{AnsweredBy}
 use Rattle.quorum_log.specs.Changes.{closing}
-use Rattle.quorum_log.specs.Formats.{empty_log, front_text, body_calls, renewing, ReadsByte, Renews, FormatCalls, IsReopened, IsInFormat, IsFormatted}
-use Rattle.quorum_log.specs.Opening.{OnlyRead, OpenFails, IsInOpen}
+use Rattle.quorum_log.specs.Formats.{empty_log, front_text, body_calls, renewing, ReadsByte, FormatCalls, IsInFormat, IsFormatted}
+use Rattle.quorum_log.specs.Opening.{OpenFails, IsInOpen}
 use Rattle.quorum_log.specs.Faults.{open_fault}
-use Rattle.quorum_log.proofs.Moments.{Put, Carries, pair, made_answer, passes_here, passes_step, passes_trans, images_weaken, passes_weaken, settled_images, step_told, rose_before}
+use Rattle.quorum_log.proofs.Moments.{Carries, pair, made_answer, passes_here, passes_step, passes_trans, images_weaken, passes_weaken, settled_images, step_told, rose_before}
 use Rattle.quorum_log.proofs.CallLaws.{made_held, made_same, same_disk-trans}
 use Rattle.quorum_log.proofs.Places.{has_one, has_kept, within_from}
 use Rattle.quorum_log.proofs.Checkpointed.{made_split}
-use Rattle.quorum_log.proofs.Opened.{Taken, taken_ok, taken_err, passes_read, only_read, seen_image}
+use Rattle.quorum_log.proofs.Opened.{taken_ok, taken_err, passes_read, only_read, seen_image}
 use Rattle.quorum_log.proofs.Texts.{HasText, length-front, kept_text, whole_text, text_holds}
 
 refused_result : {A : Type 0} (result : Result ⊤ DiskFault) (e : DiskFault) → result ≡ Err e → IsOk result → A

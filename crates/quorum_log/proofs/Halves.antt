@@ -1,8 +1,8 @@
 -- The two halves of an image, and what is read alike from two images.
-use Rattle.std.proofs.Common.{◌≡◌, ◌≢◌, ℕ, ◌+◌, ◌-◌, ◌*◌, ◌<◌, ◌≤◌, ◌⊎◌, inl, inr, List, [], ◌∷◌, ◌++◌, length, take, drop, get_or, refl, sym, ap, ◌∙◌, subst, arith, length-append, length-drop}
+use Rattle.std.proofs.Common.{◌≡◌, ℕ, ◌+◌, ◌-◌, ◌<◌, ◌≤◌, ◌⊎◌, inl, inr, List, [], ◌++◌, length, take, get_or, refl, sym, ap, ◌∙◌, arith, length-append}
 use Rattle.std.proofs.lemmas.Bool.{cases_eq, cases_lt}
 use Rattle.std.proofs.lemmas.List.{append-nil, length-take-le, get_or_append_left, get_or-append_right, take-append-le, take_all}
-use Rattle.disk_core.specs.Images.{Has, SameOutside}
+use Rattle.disk_core.specs.Images.{Has}
 use Rattle.quorum_log.specs.Layout.{half_size, half_at, image_size}
 use Rattle.quorum_log.proofs.Places.{SameWithin}
 

@@ -1,5 +1,5 @@
 -- Lists of disk calls: what each image of each moment is while they are made.
-use Rattle.std.proofs.Common.{◌≡◌, ℕ, ◌+◌, ◌-◌, ◌<◌, ◌≤◌, ◌⊎◌, inl, inr, Bool, IsTrue, List, [], ◌∷◌, ◌++◌, length, get_or, Result, Ok, Err, IsOk, refl, sym, ap, ◌∙◌, subst, arith, append_assoc}
+use Rattle.std.proofs.Common.{◌≡◌, ℕ, ◌≤◌, ◌⊎◌, inl, inr, Bool, IsTrue, List, [], ◌∷◌, ◌++◌, length, Result, Ok, Err, IsOk, refl, sym, ap, ◌∙◌, subst, arith, append_assoc}
 use Rattle.std.specs.Prelude.{⊤}
 use Rattle.std.proofs.lemmas.List.{append-nil, append_cancel_left, ext_get_or}
 use Rattle.std.specs.List.{AllByRecursion}
@@ -9,7 +9,7 @@ use Rattle.disk_core.specs.declared.fault.DiskFault.TheVariants.{Failed, Fenced}
 use Rattle.disk_core.specs.declared.span.Span.{Span}
 use Rattle.disk_core.specs.Images.{Moment, Has, SameOutside, IsFree, IsImage, EachImage}
 use Rattle.disk_core.specs.Views.{DiskView, moments, Passes}
-use Rattle.disk_core.specs.Calls.{Call, write, sync, claim, Step, Made, Did, Tried, Puts, Tears}
+use Rattle.disk_core.specs.Calls.{Call, write, sync, claim, Step, Made}
 use Rattle.quorum_log.specs.Faults.{AnsweredBy}
 
 -- where nothing is pending, the one image is what a read gives

@@ -1,5 +1,5 @@
 -- The checks of an image fail at one place at most, and nowhere where it holds a log.
-use Rattle.std.proofs.Common.{◌≡◌, ◌≢◌, ℕ, suc, ◌+◌, ◌-◌, ◌<◌, ◌≤◌, ◌⊎◌, inl, inr, Bool, true, false, not, ◌==◌, ◌&&◌, ◌||◌, nat_le, if◌then◌else◌, List, [], ◌∷◌, length, get_or, Option, Some, None, refl, sym, ap, ◌∙◌, subst, arith}
+use Rattle.std.proofs.Common.{◌≡◌, ◌≢◌, ℕ, suc, ◌+◌, ◌-◌, ◌≤◌, ◌⊎◌, inl, inr, Bool, true, false, not, ◌==◌, ◌&&◌, ◌||◌, nat_le, if◌then◌else◌, List, [], ◌∷◌, length, get_or, Option, Some, None, refl, sym, ap, ◌∙◌, subst, arith}
 use Rattle.std.specs.Str.{bytes_eq}
 use Rattle.std.proofs.lemmas.Bool.{eq-eqb}
 use Rattle.std.proofs.lemmas.Bool.Decides.{nat_tests}
@@ -7,7 +7,7 @@ use Rattle.quorum_log.specs.declared.fault.OpenFault.TheVariants.{BadImage}
 use Rattle.quorum_log.specs.declared.found.Found.{Found}
 use Rattle.quorum_log.specs.declared.found.FoundRecord.{FoundRecord}
 use Rattle.quorum_log.specs.Layout.{window, number_at, magic, half_size, half_at, image_size, most_record, next_generation}
-use Rattle.quorum_log.specs.Image.{Holds, IsCurrent, IsFramed, Listed, commit_behind, end_of, list_at, other_of, start_of}
+use Rattle.quorum_log.specs.Image.{Holds, IsFramed, Listed, commit_behind, end_of, list_at, other_of, start_of}
 use Rattle.quorum_log.proofs.OneLog.{not_both_next}
 use Rattle.quorum_log.specs.Checks.{HalvesFault, HasBadLength, IsBadBehind, IsBadHalf, IsBadImage, IsTooMany, current_half, first_bad, halves_checks, header_checks, is_next, is_valid, length_checks, list_in}
 

@@ -1,11 +1,11 @@
 -- An image holds one log at most.
-use Rattle.std.proofs.Common.{◌≡◌, ◌≢◌, ℕ, ◌+◌, ◌-◌, ◌*◌, ◌%◌, ◌^◌, ◌<◌, ◌≤◌, ◌⊎◌, inl, inr, List, [], ◌∷◌, length, get_or, refl, sym, ap, ◌∙◌, subst, arith}
+use Rattle.std.proofs.Common.{◌≡◌, ◌≢◌, ℕ, ◌+◌, ◌%◌, ◌^◌, ◌<◌, ◌⊎◌, inl, inr, List, [], ◌∷◌, length, get_or, refl, sym, ap, ◌∙◌, subst, arith}
 use Rattle.std.proofs.Math.Nat.{mod-lt, mod-eq_of_lt, mod_self}
 use Rattle.std.proofs.lemmas.Bool.{cases_lt}
 use Rattle.quorum_log.specs.declared.found.Found.{Found}
 use Rattle.quorum_log.specs.declared.found.FoundRecord.{FoundRecord}
-use Rattle.quorum_log.specs.Layout.{window, number_at, half_size, half_at, version_of, base_of, next_generation}
-use Rattle.quorum_log.specs.Image.{Holds, IsHalf, IsFramed, IsCurrent, Listed, commit_behind, start_of, end_of, other_of, list_at, tail_of}
+use Rattle.quorum_log.specs.Layout.{window, number_at, next_generation}
+use Rattle.quorum_log.specs.Image.{Holds, IsHalf, IsFramed, IsCurrent, Listed, commit_behind, start_of, end_of, other_of, list_at}
 
 -- no two generations are each the next one of the other
 next_cases : (g : ℕ) → g < 2 ^ 64 → (next_generation g ≡ g + 1) ⊎ ((next_generation g ≡ 0) × (g + 1 ≡ 2 ^ 64))

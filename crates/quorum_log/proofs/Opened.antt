@@ -1,19 +1,18 @@
 -- What opening finds, from what its parts find.
-use Rattle.std.proofs.Common.{◌≡◌, ◌≢◌, ℕ, ◌+◌, ◌-◌, ◌<◌, ◌≤◌, ◌⊎◌, inl, inr, IsTrue, Bool, not, ◌==◌, List, [], ◌∷◌, ◌++◌, length, get_or, Option, Some, None, Result, Ok, Err, IsOk, refl, sym, ap, ◌∙◌, subst, arith}
+use Rattle.std.proofs.Common.{◌≡◌, ◌≢◌, ℕ, ◌+◌, ◌-◌, ◌≤◌, inl, inr, IsTrue, Bool, not, ◌==◌, List, [], ◌∷◌, ◌++◌, length, get_or, None, Result, Ok, Err, IsOk, refl, sym, ap, ◌∙◌, subst, arith}
 use Rattle.std.specs.Prelude.{⊤}
-use Rattle.causes.specs.Counts.{Rose}
 use Rattle.std.proofs.lemmas.List.{get_or_append_left}
 use Rattle.disk_core.specs.declared.fault.DiskFault.{DiskFault}
 use Rattle.disk_core.specs.declared.fault.DiskFault.TheVariants as disk_faults
-use Rattle.disk_core.specs.Images.{Moment, Has, IsImage, EachImage}
+use Rattle.disk_core.specs.Images.{Moment, Has, IsImage}
 use Rattle.disk_core.specs.Views.{DiskView, Passes, moments}
-use Rattle.disk_core.specs.Calls.{Call, sync, claim, Step, ReadStep, Made, SameDisk}
+use Rattle.disk_core.specs.Calls.{sync, claim, Step, ReadStep, Made, SameDisk}
 use Rattle.quorum_log.specs.declared.fault.OpenFault.{OpenFault}
 use Rattle.quorum_log.specs.declared.fault.OpenFault.TheVariants.{Failed, Fenced, Blank, BadImage, Memory}
 use Rattle.quorum_log.specs.declared.found.Found.{Found}
-use Rattle.quorum_log.specs.Layout.{half_at, image_size, number_at}
+use Rattle.quorum_log.specs.Layout.{image_size, number_at}
 use Rattle.quorum_log.specs.Image.{Holds, other_of}
-use Rattle.quorum_log.specs.Checks.{first_bad, header_checks, is_valid, current_half, HeaderFault, HalvesFault, IsBadImage}
+use Rattle.quorum_log.specs.Checks.{first_bad, header_checks, is_valid, HeaderFault, HalvesFault, IsBadImage}
 use Rattle.quorum_log.specs.Readings.{IsFoundCurrent}
 use Rattle.quorum_log.specs.Faults.{open_fault}
 use Rattle.quorum_log.specs.Logs.{StandsFor, log_of}

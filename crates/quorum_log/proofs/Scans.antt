@@ -1,8 +1,7 @@
 -- What is read of a half stands in it.
-use Rattle.std.proofs.Common.{◌≡◌, ◌≢◌, ℕ, ◌+◌, ◌-◌, ◌<◌, ◌≤◌, ◌⊎◌, inl, inr, List, [], ◌∷◌, ◌++◌, length, get_or, refl, sym, ap, ◌∙◌, subst, arith, length-append}
-use Rattle.quorum_log.specs.declared.found.Found.{Found}
+use Rattle.std.proofs.Common.{◌≡◌, ◌≢◌, ℕ, ◌+◌, ◌<◌, ◌≤◌, List, [], ◌∷◌, ◌++◌, length, get_or, refl, sym, ap, ◌∙◌, subst, arith}
 use Rattle.quorum_log.specs.declared.found.FoundRecord.{FoundRecord}
-use Rattle.quorum_log.specs.Layout.{window, number_at, half_size, half_at, most_record, most_records, version_of, base_of}
+use Rattle.quorum_log.specs.Layout.{window, number_at, half_size, half_at, most_records, version_of, base_of}
 use Rattle.quorum_log.specs.Image.{IsHalf, IsFramed, Listed, commit_behind}
 use Rattle.quorum_log.specs.Readings.{AreLengths, AreRecords, IsGoodSize, IsFoundHalf}
 use Rattle.quorum_log.proofs.Places.{length-window}

@@ -1,12 +1,11 @@
 -- What `format` writes, and the log that it makes.
-use Rattle.std.proofs.Common.{◌≡◌, ◌≢◌, ℕ, ◌+◌, ◌-◌, ◌*◌, ◌^◌, ◌<◌, ◌≤◌, ◌⊎◌, inl, inr, List, [], ◌∷◌, ◌++◌, length, take, replicate, get_or, refl, sym, ap, ◌∙◌, subst, arith, append_assoc, length-append}
+use Rattle.std.proofs.Common.{◌≡◌, ◌≢◌, ℕ, ◌+◌, ◌^◌, ◌<◌, ◌≤◌, ◌⊎◌, inl, inr, List, [], ◌∷◌, ◌++◌, length, replicate, get_or, refl, sym, arith, length-append}
 use Rattle.std.proofs.lemmas.List.{length-replicate}
-use Rattle.std.proofs.lemmas.Bool.Decides.{nat_tests}
 use Rattle.wire_fields.specs.declared.endian.Endian.TheVariants.{Little}
 use Rattle.wire_fields.specs.Numbers.{num}
 use Rattle.disk_core.specs.Images.{Has, SameOutside}
-use Rattle.quorum_log.specs.Layout.{magic, window, number_at, half_size, half_at, image_size, most_record, most_records, second_version, version_of, base_of}
-use Rattle.quorum_log.specs.Image.{Holds, IsHalf, IsCurrent}
+use Rattle.quorum_log.specs.Layout.{magic, window, number_at, half_at, image_size, second_version, version_of, base_of}
+use Rattle.quorum_log.specs.Image.{Holds, IsHalf}
 use Rattle.quorum_log.specs.Formats.{empty_log, header_text, fields_text, front_text}
 use Rattle.quorum_log.proofs.Places.{SameWithin, has_number, has_window, has_left, has_right, has_one, has_kept, length-num, within_from}
 

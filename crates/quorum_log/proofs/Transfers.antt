@@ -1,23 +1,20 @@
 -- What the checks say of the bytes that were read, they say of the disk.
-use Rattle.std.proofs.Common.{◌≡◌, ◌≢◌, ℕ, ◌+◌, ◌-◌, ◌*◌, ◌<◌, ◌≤◌, ◌⊎◌, inl, inr, IsTrue, Bool, true, false, not, ◌&&◌, ◌||◌, ◌==◌, nat_le, if◌then◌else◌, List, [], ◌∷◌, ◌++◌, length, take, drop, get_or, Option, Some, None, refl, sym, ap, ◌∙◌, subst, arith}
+use Rattle.std.proofs.Common.{◌≡◌, ◌≢◌, ℕ, ◌+◌, ◌-◌, ◌<◌, ◌≤◌, ◌⊎◌, inl, inr, Bool, true, false, not, ◌&&◌, ◌||◌, ◌==◌, nat_le, if◌then◌else◌, List, [], ◌∷◌, length, get_or, Some, None, refl, sym, ap, ◌∙◌, subst, arith}
 use Rattle.std.proofs.lemmas.Bool.{cases_lt}
 use Rattle.std.proofs.lemmas.Bool.Decides.{nat_tests}
 use Rattle.std.proofs.lemmas.Slice.Eq.{bytes_eq-Decides}
 use Rattle.std.specs.Str.{bytes_eq}
-use Rattle.disk_core.specs.Images.{Has}
-use Rattle.disk_core.specs.Views.{DiskView}
 use Rattle.quorum_log.specs.declared.fault.OpenFault.{OpenFault}
 use Rattle.quorum_log.specs.declared.fault.OpenFault.TheVariants.{Failed, Fenced, Blank, BadImage, Memory}
 use Rattle.quorum_log.specs.declared.found.Found.{Found}
-use Rattle.quorum_log.specs.declared.found.FoundRecord.{FoundRecord}
-use Rattle.quorum_log.specs.Layout.{window, magic, number_at, half_size, half_at, image_size, most_record, most_records, base_of, next_generation}
-use Rattle.quorum_log.specs.Image.{Holds, IsHalf, IsCurrent, Listed, commit_behind, start_of, end_of, other_of, list_at, tail_of}
+use Rattle.quorum_log.specs.Layout.{window, magic, number_at, half_size, half_at, image_size, most_record, next_generation}
+use Rattle.quorum_log.specs.Image.{Holds, IsCurrent, Listed, commit_behind, start_of, end_of, other_of, list_at, tail_of}
 use Rattle.quorum_log.specs.Checks.{first_bad, header_checks, halves_checks, length_checks, is_valid, generation_in, is_next, current_half, list_in, HasBadLength, IsBadBehind, IsTooMany, IsBadHalf, HeaderFault, HalvesFault}
-use Rattle.quorum_log.specs.Readings.{IsFoundCurrent, IsFoundHalf, AreRecords}
+use Rattle.quorum_log.specs.Readings.{IsFoundCurrent}
 use Rattle.quorum_log.proofs.Places.{SameWithin, same_number, same_window, within_part}
-use Rattle.quorum_log.proofs.Kept.{holds_by, kept_list, tail_within, behind-le}
+use Rattle.quorum_log.proofs.Kept.{holds_by, kept_list, tail_within}
 use Rattle.quorum_log.proofs.Appends.{kept_current}
-use Rattle.quorum_log.proofs.Halves.{half_within, which_half, other_which}
+use Rattle.quorum_log.proofs.Halves.{half_within, other_which}
 
 -- the header
 pub same_header : (image seen : List ℕ) (size : ℕ) → SameWithin 0 64 image seen → header_checks seen size ≡ header_checks image size

@@ -1,5 +1,5 @@
 -- Laws of log values.
-use Rattle.std.proofs.Common.{◌≡◌, ℕ, ◌+◌, ◌-◌, ◌*◌, ◌<◌, ◌≤◌, ◌⊎◌, arith}
+use Rattle.std.proofs.Common.{◌≡◌, ℕ, ◌≤◌, ◌⊎◌, arith}
 use Rattle.quorum_log.specs.Layout.{most_record}
 use Rattle.quorum_log.specs.Logs.{LogValue, Fits, begun}
 

@@ -1,12 +1,11 @@
 -- The texts that are written to a log, and what they make of it.
-use Rattle.std.specs.Prelude.{◌≡◌, ◌≢◌, ℕ, ◌+◌, ◌-◌, ◌⊎◌, Bool, true, false, List, [], ◌∷◌, ◌++◌, length, replicate, slice_index, Result, Ok, Err, ⊤}
+use Rattle.std.specs.Prelude.{◌≡◌, ℕ, ◌+◌, ◌-◌, ◌⊎◌, Bool, true, false, List, [], ◌∷◌, ◌++◌, length}
 use Rattle.wire_fields.specs.declared.endian.Endian.TheVariants.{Little}
 use Rattle.wire_fields.specs.Numbers.{num}
 use Rattle.disk_core.specs.Images.{Moment, EachImage}
 use Rattle.disk_core.specs.Calls.{Call, write, sync}
 use Rattle.quorum_log.specs.declared.found.Found.{Found}
-use Rattle.quorum_log.specs.declared.found.FoundRecord.{FoundRecord}
-use Rattle.quorum_log.specs.Layout.{magic, half_at, second_version, next_generation}
+use Rattle.quorum_log.specs.Layout.{second_version, next_generation}
 use Rattle.quorum_log.specs.Image.{Holds, other_of, tail_of}
 
 -- A record with its length in front and the next commit byte, which is 0, behind it.

@@ -1,12 +1,11 @@
 -- The checks of an image, in order. Each fault names the place of what is at fault.
-use Rattle.std.specs.Prelude.{◌≡◌, ◌≢◌, ℕ, ◌+◌, ◌-◌, ◌<◌, ◌≤◌, ◌^◌, ◌⊎◌, Bool, not, ◌==◌, ◌&&◌, ◌||◌, nat_lt, nat_le, if◌then◌else◌, List, [], ◌∷◌, length, slice_index, Option, Some, None}
+use Rattle.std.specs.Prelude.{◌≡◌, ◌≢◌, ℕ, ◌+◌, ◌-◌, ◌<◌, ◌≤◌, ◌⊎◌, Bool, not, ◌==◌, ◌&&◌, ◌||◌, nat_le, if◌then◌else◌, List, [], ◌∷◌, length, slice_index, Option, Some, None}
 use Rattle.std.specs.Str.{bytes_eq}
 use Rattle.quorum_log.specs.declared.fault.OpenFault.{OpenFault}
-use Rattle.quorum_log.specs.declared.fault.OpenFault.TheVariants.{Failed, Fenced, Blank, BadImage, Memory}
-use Rattle.quorum_log.specs.declared.found.Found.{Found}
+use Rattle.quorum_log.specs.declared.fault.OpenFault.TheVariants.{Blank, BadImage, Memory}
 use Rattle.quorum_log.specs.declared.found.FoundRecord.{FoundRecord}
 use Rattle.quorum_log.specs.Layout.{window, number_at, magic, half_size, half_at, image_size, most_record, most_records, base_of, next_generation}
-use Rattle.quorum_log.specs.Image.{Listed, IsHalf, commit_behind}
+use Rattle.quorum_log.specs.Image.{Listed, commit_behind}
 
 -- Of checks that pass or not, each with its place, the place of the first one that doesn't.
 abbrev pub first_bad : List (Bool × ℕ) → Option ℕ

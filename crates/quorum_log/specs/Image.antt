@@ -12,7 +12,7 @@
 --
 -- The list is a commit byte; 0 ends it, and any other is followed by a length u32, the bytes of a record,
 -- and the next commit byte.
-use Rattle.std.specs.Prelude.{◌≡◌, ◌≢◌, ℕ, ◌+◌, ◌-◌, ◌<◌, ◌≤◌, ◌^◌, ◌⊎◌, List, [], ◌∷◌, length, slice_index}
+use Rattle.std.specs.Prelude.{◌≡◌, ◌≢◌, ℕ, ◌+◌, ◌-◌, ◌<◌, ◌≤◌, ◌⊎◌, List, [], ◌∷◌, length, slice_index}
 use Rattle.quorum_log.specs.declared.found.Found.{Found}
 use Rattle.quorum_log.specs.declared.found.FoundRecord.{FoundRecord}
 use Rattle.quorum_log.specs.Layout.{window, number_at, magic, half_size, half_at, IsCap, image_size, most_record, most_records, version_of, base_of, next_generation}

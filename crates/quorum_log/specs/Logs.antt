@@ -1,8 +1,5 @@
 -- What a log value keeps, and the log for which it stands.
-use Rattle.std.specs.Prelude.{◌≡◌, ℕ, ◌+◌, ◌-◌, ◌<◌, ◌≤◌, ◌⊎◌, Bool, true, IsTrue, not, ◌==◌, List, [], length, slice_index, Result, Ok, Err, ⊤}
-use Rattle.causes.specs.Counts.{Rose}
-use Rattle.disk_core.specs.declared.fault.DiskFault.{DiskFault}
-use Rattle.disk_core.specs.declared.fault.DiskFault.TheVariants as disk_faults
+use Rattle.std.specs.Prelude.{◌≡◌, ℕ, ◌+◌, ◌-◌, ◌<◌, ◌≤◌, ◌⊎◌, Bool, true, IsTrue, not, ◌==◌, [], length, slice_index}
 use Rattle.disk_core.specs.Views.{DiskView}
 use Rattle.quorum_log.specs.declared.found.Found.{Found}
 use Rattle.quorum_log.specs.Layout.{half_size, half_at, IsCap, most_record, most_records, next_generation}

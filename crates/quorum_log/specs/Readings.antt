@@ -1,5 +1,5 @@
 -- What the functions that read the parts of an image answer.
-use Rattle.std.specs.Prelude.{◌≡◌, ◌≢◌, ℕ, ◌+◌, ◌-◌, ◌<◌, ◌≤◌, ◌⊎◌, List, length, slice_index, Option, Some, None}
+use Rattle.std.specs.Prelude.{◌≡◌, ℕ, ◌+◌, ◌<◌, ◌≤◌, ◌⊎◌, List, length, slice_index, Option, Some, None}
 use Rattle.quorum_log.specs.declared.fault.OpenFault.{OpenFault}
 use Rattle.quorum_log.specs.declared.fault.OpenFault.TheVariants.{BadImage, Memory}
 use Rattle.quorum_log.specs.declared.found.Found.{Found}

@@ -1,4 +1,4 @@
-use Rattle.std.proofs.Common.{◌≡◌, ℕ, ◌+◌, ◌-◌, ◌≤◌, arith, ◌∙◌}
+use Rattle.std.proofs.Common.{arith}
 use Rattle.quorum_log.proofs.Scans.{found_half}
 use Rattle.quorum_log.proofs.checking.read_half.Goals as goal
 

@@ -1,4 +1,3 @@
-use Rattle.std.proofs.Common.{◌≡◌, ℕ, ◌+◌, ◌-◌, ap, ◌∙◌}
 use Rattle.quorum_log.proofs.Scans.{scan_next}
 use Rattle.quorum_log.proofs.checking.read_records.Goals as goal
 

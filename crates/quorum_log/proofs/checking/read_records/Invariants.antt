@@ -1,4 +1,4 @@
-use Rattle.std.proofs.Common.{◌≡◌, ℕ, ◌-◌, ◌<◌, length}
+use Rattle.std.proofs.Common.{◌≡◌, ◌-◌, ◌<◌}
 use Rattle.quorum_log.specs.Image.{Listed, commit_behind}
 use Rattle.quorum_log.proofs.checking.read_records.Given as goal
 

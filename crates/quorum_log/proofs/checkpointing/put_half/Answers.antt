@@ -1,7 +1,5 @@
-use Rattle.std.proofs.Common.{◌≡◌, ℕ, ◌+◌, ◌<◌, ◌++◌, take, length, arith, ap, sym, refl, ◌∙◌}
-use Rattle.wire_fields.specs.declared.endian.Endian.TheVariants.{Little}
+use Rattle.std.proofs.Common.{◌≡◌, ◌+◌, length, arith, refl}
 use Rattle.wire_fields.specs.Numbers.{num}
-use Rattle.quorum_log.specs.Layout.{second_version}
 use Rattle.quorum_log.proofs.Checkpoints.{half_put}
 use Rattle.quorum_log.proofs.checkpointing.put_half.Goals as goal
 

@@ -1,4 +1,4 @@
-use Rattle.std.proofs.Common.{◌≡◌, ℕ, ◌+◌, ◌<◌, ◌≤◌, length, arith, sym, ◌∙◌}
+use Rattle.std.proofs.Common.{arith}
 use Rattle.quorum_log.proofs.Formatted.{formatted, format_answer, format_same}
 use Rattle.quorum_log.proofs.formatting.format.Goals as goal
 

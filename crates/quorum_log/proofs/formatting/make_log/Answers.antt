@@ -1,4 +1,4 @@
-use Rattle.std.proofs.Common.{rules, ◌≡◌, ℕ, ◌+◌, ◌<◌, ◌≤◌, inl, inr, arith, ap, sym, ◌∙◌}
+use Rattle.std.proofs.Common.{rules, inl, inr, arith}
 use Rattle.std.proofs.lemmas.Result.{err_from_is_err_and}
 use Rattle.quorum_log.proofs.Opened.{taken_ok}
 use Rattle.quorum_log.proofs.formatting.make_log.Goals as goal

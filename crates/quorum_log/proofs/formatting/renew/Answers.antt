@@ -1,7 +1,5 @@
-use Rattle.std.proofs.Common.{◌≡◌, ℕ, ◌+◌, ◌<◌, ◌≤◌, [], ◌∷◌, ◌++◌, length, arith, ap, sym, ◌∙◌}
+use Rattle.std.proofs.Common.{arith}
 use Rattle.std.proofs.lemmas.Result.{err_from_is_err_and}
-use Rattle.disk_core.specs.Calls.{Call, write, sync}
-use Rattle.quorum_log.specs.Layout.{half_at}
 use Rattle.quorum_log.specs.Changes.{closing}
 use Rattle.quorum_log.specs.Formats.{body_calls}
 use Rattle.quorum_log.proofs.Checkpointed.{made_append, made_refused, made_size}

@@ -1,5 +1,5 @@
-use Rattle.std.proofs.Common.{rules, ◌≡◌, ℕ, ◌+◌, ◌-◌, ◌<◌, ◌≤◌, arith, length}
-use Rattle.quorum_log.proofs.Formatted.{made_at_once, made_in_parts}
+use Rattle.std.proofs.Common.{arith}
+use Rattle.quorum_log.proofs.Formatted.{made_at_once}
 use Rattle.quorum_log.proofs.formatting.write_body.Goals as goal
 
 pub returns : goal.returns

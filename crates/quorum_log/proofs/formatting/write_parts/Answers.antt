@@ -1,4 +1,4 @@
-use Rattle.std.proofs.Common.{rules, inl, inr, ◌≡◌, ℕ, ◌+◌, ◌≤◌, arith, length}
+use Rattle.std.proofs.Common.{rules, inl, inr, arith}
 use Rattle.std.proofs.lemmas.List.{length-take-le}
 use Rattle.disk_core.specs.Calls.{Made}
 use Rattle.quorum_log.proofs.formatting.write_parts.Goals as goal

@@ -1,4 +1,4 @@
-use Rattle.std.proofs.Common.{◌≡◌, ℕ, ◌+◌, ◌<◌, length, arith, ap, sym, subst, refl, ◌∙◌, List, ◌++◌, Ok, Err, length-append}
+use Rattle.std.proofs.Common.{◌≡◌, ℕ, length, arith, ap, subst, refl, ◌∙◌, List, Ok, Err, length-append}
 use Rattle.std.proofs.lemmas.Result.{err_from_is_err_and}
 use Rattle.quorum_log.specs.Layout.{image_size}
 use Rattle.quorum_log.specs.Opening.{AnswersImage}

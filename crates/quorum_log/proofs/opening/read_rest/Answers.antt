@@ -1,4 +1,4 @@
-use Rattle.std.proofs.Common.{◌≡◌, ℕ, ◌+◌, ◌-◌, ◌<◌, ◌≤◌, List, ◌++◌, [], take, drop, length, arith, ap, sym, ◌∙◌, refl, subst, length-drop}
+use Rattle.std.proofs.Common.{◌≡◌, ℕ, ◌+◌, ◌-◌, [], take, drop, length, arith, ap, subst, length-drop}
 use Rattle.std.proofs.lemmas.List.{drop_all}
 use Rattle.quorum_log.proofs.Halves.{rest_read}
 use Rattle.quorum_log.proofs.opening.read_rest.Goals as goal

@@ -1,4 +1,4 @@
-use Rattle.std.proofs.Common.{◌≡◌, ℕ, ◌+◌, ◌-◌, arith, ◌∙◌}
+use Rattle.std.proofs.Common.{◌≡◌, ◌+◌, ◌-◌, arith, ◌∙◌}
 use Rattle.quorum_log.proofs.Places.{window_is}
 use Rattle.quorum_log.proofs.reading.copy.Goals as goal
 

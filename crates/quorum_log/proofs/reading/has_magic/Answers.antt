@@ -1,4 +1,4 @@
-use Rattle.std.proofs.Common.{rules, ◌≡◌, arith, sym}
+use Rattle.std.proofs.Common.{rules, arith}
 use Rattle.quorum_log.proofs.Places.{window_is}
 use Rattle.quorum_log.proofs.reading.has_magic.Goals as goal
 

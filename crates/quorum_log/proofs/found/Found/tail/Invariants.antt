@@ -1,4 +1,4 @@
-use Rattle.std.proofs.Common.{◌≡◌, ℕ, drop}
+use Rattle.std.proofs.Common.{◌≡◌, drop}
 use Rattle.quorum_log.specs.Image.{commit_behind, tail_of}
 use Rattle.quorum_log.proofs.found.Found.tail.Given as goal
 

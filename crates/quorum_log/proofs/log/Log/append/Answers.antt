@@ -1,4 +1,4 @@
-use Rattle.std.proofs.Common.{rules, ◌≡◌, Ok, ℕ, ◌+◌, ◌-◌, ◌<◌, ◌≤◌, [], ◌∷◌, ◌++◌, length, take, drop, min, refl, sym, ap, ◌∙◌, subst, arith}
+use Rattle.std.proofs.Common.{rules, Ok, ◌+◌, [], ◌∷◌, refl}
 use Rattle.disk_core.specs.Calls.{Made, write, sync}
 use Rattle.quorum_log.specs.Faults.{disk_answer}
 use Rattle.quorum_log.specs.Changes.{framed_record}

@@ -1,4 +1,4 @@
-use Rattle.std.proofs.Common.{rules, ◌≡◌, ℕ, Bool, true, false, Ok, ◌+◌, ◌-◌, ◌<◌, ◌≤◌, ◌^◌, [], ◌∷◌, ◌++◌, length, take, drop, refl, sym, ap, ◌∙◌, subst, arith}
+use Rattle.std.proofs.Common.{rules, Ok, ◌+◌, ◌-◌, [], ◌∷◌, ◌++◌, refl, arith}
 use Rattle.disk_core.specs.Calls.{Made, write, sync}
 use Rattle.quorum_log.specs.Layout.{half_at, next_generation}
 use Rattle.quorum_log.specs.Faults.{disk_answer}

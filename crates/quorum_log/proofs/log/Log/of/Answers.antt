@@ -1,4 +1,4 @@
-use Rattle.std.proofs.Common.{◌≡◌, ℕ, ◌+◌, ◌<◌, length, arith, ap, sym}
+use Rattle.std.proofs.Common.{length, arith, ap}
 use Rattle.quorum_log.specs.Image.{list_at}
 use Rattle.quorum_log.proofs.Kept.{behind-le}
 use Rattle.quorum_log.proofs.Halves.{which_half}

@@ -1,4 +1,4 @@
-use Rattle.std.proofs.Common.{◌≡◌, ℕ, ◌+◌, ◌-◌, ◌<◌, ◌≤◌, [], ◌∷◌, ◌++◌, length, refl, sym, ap, ◌∙◌, subst, arith, List, Ok, Err, inl, inr}
+use Rattle.std.proofs.Common.{refl, arith, Ok, Err, inl}
 use Rattle.std.proofs.lemmas.Result.{err_from_is_err_and}
 use Rattle.quorum_log.specs.declared.fault.OpenFault.TheVariants.{Memory}
 use Rattle.quorum_log.specs.Opening.{IsInOpen}
