@@ -168,8 +168,13 @@ waits_reported first old gone waits = record {
   stays = stays_on first old (reported old) gone.stays (reported_stays old);
 }
 
-pub ends_waiting : (first old new after : Kept) → GoneOn first old → (new ≡ old) × Waits old.rest → after ≡ reported new → Ends given_none first after
-ends_waiting first old new after gone (same, waits) is =
+pub few_waiting : (old new after : Kept) → (new ≡ old) × Waits old.rest × (length old.rest < 65536) → after ≡ reported new → length after.rest < 65536
+few_waiting old new after (same, waits, few) is =
+    let rest : length after.rest ≡ length old.rest = ap (λ (kept : Kept). length kept.rest) is ∙ ap (λ (kept : Kept). length kept.rest) same in
+    omega (arith, rest, few)
+
+pub ends_waiting : (first old new after : Kept) → GoneOn first old → (new ≡ old) × Waits old.rest × (length old.rest < 65536) → after ≡ reported new → Ends given_none first after
+ends_waiting first old new after gone (same, waits, few) is =
     let after_is : reported old ≡ after = sym (is ∙ ap reported same) in
     subst (λ (kept : Kept). Ends given_none first kept) after_is (waits_reported first old gone waits)
 

@@ -131,6 +131,11 @@ Tells (Ok None) old new stream given = AtEnd new.side stream given no_fault new.
 Tells (Err faults.Memory) old new stream given = (new.unprocessed ≡ old.unprocessed) × (new.unfinished ≡ old.unfinished)
 Tells (Err fault) old new stream given = AtEnd new.side stream given (Some fault) new.unprocessed new.unfinished
 
+-- Where no further item is whole, fewer bytes wait than the longest fragment has.
+abbrev pub FewWait : Result (Option Item) IntakeFault → Kept → Type 0
+FewWait (Ok None) new = length new.rest < 65536
+FewWait _ new = Unit {0}
+
 -- The same of both numbers.
 abbrev pub NumbersAre : Result (Option Item) IntakeFault → Kept → Kept → Type 0
 NumbersAre result old new = (stream : List ℕ) (given : List Item) → Holds old stream given → Tells result old new stream given

@@ -1,5 +1,5 @@
 -- What the parts of `next` do with one frame.
-use Rattle.std.specs.Prelude.{◌≡◌, ◌≢◌, ℕ, ◌≤◌, List, length, take, Option, Result, Ok, Err}
+use Rattle.std.specs.Prelude.{◌≡◌, ◌≢◌, ℕ, ◌≤◌, ◌<◌, List, length, take, Option, Result, Ok, Err}
 use Rattle.rpc_pdu.specs.declared.pdu_fault.PduFault.TheVariants as pdu_faults
 use Rattle.rpc_calls.specs.declared.call.Call.{Call}
 use Rattle.rpc_calls.specs.declared.fragments.Cut.{Cut}
@@ -14,9 +14,9 @@ use Rattle.rpc_calls.specs.Intakes.{IsLasting}
 use Rattle.rpc_calls.specs.Parts.{FrameBad, IsPart}
 use Rattle.rpc_calls.specs.Streams.{BadFrame}
 
--- What lies at the front of some bytes.
+-- What lies at the front of some bytes. Too few for a frame are fewer than the longest has.
 abbrev pub CutIs : Cut → List ℕ → Type 0
-CutIs cuts.Waits bytes = Waits bytes
+CutIs cuts.Waits bytes = Waits bytes × (length bytes < 65536)
 CutIs cuts.TooShort bytes = TooShort bytes
 CutIs (cuts.Frame size) bytes = (size ≤ length bytes) × IsFrame (take size bytes)
 

@@ -1,5 +1,5 @@
 -- What one turn of `next` does to an intake.
-use Rattle.std.specs.Prelude.{◌≡◌, ℕ, ◌+◌, List, ◌++◌, length, Option, Some, Result, Ok, Err}
+use Rattle.std.specs.Prelude.{◌≡◌, ℕ, ◌+◌, ◌<◌, List, ◌++◌, length, Option, Some, Result, Ok, Err}
 use Rattle.rpc_calls.specs.declared.intake_fault.IntakeFault.{IntakeFault}
 use Rattle.rpc_calls.specs.declared.intake_fault.IntakeFault.TheVariants as faults
 use Rattle.rpc_calls.specs.declared.item.Item.{Item}
@@ -54,6 +54,6 @@ MayStand kept faults.Memory = Unit {0}
 MayStand kept fault = IsLasting fault × FaultAt kept.side kept.place kept.left kept.rest fault
 
 abbrev pub TurnIs : Result Turn IntakeFault → Kept → Kept → Type 0
-TurnIs (Ok turns.Waits) old new = (new ≡ old) × Waits old.rest
+TurnIs (Ok turns.Waits) old new = (new ≡ old) × Waits old.rest × (length old.rest < 65536)
 TurnIs (Ok (turns.Went item)) old new = Goes old new item
 TurnIs (Err fault) old new = MayStand old fault × (new ≡ refused old fault)

@@ -3,7 +3,7 @@
 ghost use Rattle.std.specs.Prelude.{◌≡◌, ◌+◌, ◌<◌, ◌≤◌, ◌^◌, List, [], ℕ, length, IfErr, IfOk, IfSome, OnOk, ◌++◌};
 ghost use Rattle.rpc_calls.specs.declared.item.Item.{Item};
 ghost use Rattle.rpc_calls.specs.Assembly.{most_stub, stub_length};
-ghost use Rattle.rpc_calls.specs.Intakes.{FeedIs, GivesAgain, Holds, KeepsFault, NextIs, NoMemoryInside, NumbersAre, Stays, fresh, most_unprocessed, stream_length};
+ghost use Rattle.rpc_calls.specs.Intakes.{FeedIs, FewWait, GivesAgain, Holds, KeepsFault, NextIs, NoMemoryInside, NumbersAre, Stays, fresh, most_unprocessed, stream_length};
 ghost use Rattle.rpc_calls.specs.Turns.{TurnIs, refused, reported};
 
 use crate::call::Call;
@@ -99,6 +99,7 @@ impl Intake {
         ensures again { GivesAgain result self.old }
         ensures numbers { NumbersAre result self.old self.new }
         ensures stays { Stays self.old self.new }
+        ensures waits { FewWait result self.new }
         // An item takes its frame, at the least, from the bytes that are kept.
         ensures shorter { IfOk result (λ item. IfSome item (λ _. length self.new.rest < length self.old.rest)) }
     {
