@@ -1,13 +1,13 @@
 -- The words ask for one command, which ends as it may.
-use Rattle.std.proofs.Common.{◌≡◌, ℕ, ◌<◌, ◌≤◌, List, [], ◌∷◌, codes, Option, get_or, refl, sym, ap, ◌∙◌, inl, inr, arith}
+use Rattle.std.proofs.Common.{◌≡◌, ℕ, List, [], ◌∷◌, codes, Option, get_or, refl, sym, ap, ◌∙◌, inl, inr, arith}
 use Rattle.causes.specs.Counts.{Rose}
 use Rattle.clus_cli.specs.declared.status.Status.{Status}
 use Rattle.clus_cli.specs.declared.status.Status.TheVariants as statuses
 use Rattle.clus_cli.specs.Commands.{AsksFormat, AsksServe, AsksServeOf, AsksSession, FormatEnds, FormatRuns}
 use Rattle.clus_cli.specs.Doors.{ServeEnds}
-use Rattle.clus_cli.specs.Ends.{Asks, Ends, MayEnd, Outside, format, serve, session, showlog}
+use Rattle.clus_cli.specs.Ends.{Ends, MayEnd, Outside, format, serve, session, showlog}
 use Rattle.clus_cli.specs.Session.{SessionEnds}
-use Rattle.clus_cli.specs.Showlog.{AsksShowlog, IsRefused, IsShown, Prints, Refuses, ShowRuns}
+use Rattle.clus_cli.specs.Showlog.{AsksShowlog, Prints, Refuses, ShowRuns}
 
 -- ---- one status
 

@@ -1,5 +1,5 @@
 -- How each command may end.
-use Rattle.std.specs.Prelude.{◌≡◌, ℕ, ◌<◌, ◌≤◌, IsTrue, List}
+use Rattle.std.specs.Prelude.{◌≡◌, ℕ, ◌<◌, IsTrue, List}
 use Rattle.causes.specs.Counts.{Rose}
 use Rattle.disk_core.specs.Views.{DiskView}
 use Rattle.clus_cli.specs.declared.status.Status.{Status}
