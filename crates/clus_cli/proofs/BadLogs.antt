@@ -1,5 +1,5 @@
 -- A log is bad at one place at most, and a good one isn't bad.
-use Rattle.std.proofs.Common.{◌≡◌, ℕ, ◌≤◌, ◌⊎◌, IsTrue, List, length, Option, sym, ap, ◌∙◌, subst, inl, inr, arith}
+use Rattle.std.proofs.Common.{◌≡◌, ℕ, ◌≤◌, IsTrue, List, length, Option, sym, ◌∙◌, subst, inl, inr, arith}
 use Rattle.disk_core.specs.Views.{DiskView}
 use Rattle.quorum_log.specs.declared.found.Found.{Found}
 use Rattle.quorum_log.specs.Image.{Holds}
@@ -11,7 +11,7 @@ use Rattle.log_contents.proofs.Exact.{no_contents}
 use Rattle.log_contents.proofs.OneFault as contents
 use Rattle.clus_cli.specs.declared.status.Status.{Status}
 use Rattle.clus_cli.specs.declared.status.Status.TheVariants as statuses
-use Rattle.clus_cli.specs.Showlog.{EndsAtBad, IsBadLog, IsGoodLog, IsRefused, IsShown}
+use Rattle.clus_cli.specs.Showlog.{EndsAtBad, IsBadLog, IsGoodLog, IsRefused}
 
 room : (image : List ℕ) (size : ℕ) (x : Found) → length image ≡ size → Holds image x → image_size x.cap ≤ size
 room image size x sized is = omega (arith, sized, is.whole)

@@ -17,7 +17,8 @@ use Rattle.clus_cli.specs.declared.piece.Taken.TheVariants.{Piece, End, ReadFaul
 use Rattle.clus_cli.specs.declared.serving.Conversed.{Conversed}
 use Rattle.clus_cli.specs.declared.serving.Conversed.TheVariants as ends
 use Rattle.clus_cli.specs.Doors.{Befalls, Breaks, Converses, Exchanged, ReadsLast, Receives, with_present}
-use Rattle.clus_cli.specs.Pieces.{Feeds, IsEnd, IsFull}
+use Rattle.clus_cli.specs.Pieces.{Feeds, IsEnd}
+use Rattle.clus_cli.specs.Session.{most_stream, piece_length}
 use Rattle.clus_cli.specs.Serving.{IsServed, input_of}
 use Rattle.clus_cli.proofs.ServeLaws.{Closing, Link, Partly, Resting, TakesMore, WritesMore, whole_at}
 
@@ -118,22 +119,28 @@ reads (Some a) (Some b) into count given told = λ v is.
 nothing_taken : (into : List ℕ) (count : ℕ) → count ≤ length into → take count into ≡ [] → count ≡ 0
 nothing_taken into count within none = sym (length-take-le count into within) ∙ ap (λ (t : List ℕ). length t) none
 
-pub no_piece : (into : List ℕ) (count : ℕ) (kept : Kept) (taken : ℕ) (left : Option (List ℕ)) → count ≤ length into → 0 < length into → (count ≡ 0 → 0 < length into → IsAtEnd left)
-    → (take count into ≡ []) ⊎ IsFull kept taken → IsEnd left kept taken (take count into)
-no_piece into count kept taken left within room at-end end =
+no_piece : (into : List ℕ) (count : ℕ) (taken : ℕ) (left : Option (List ℕ)) → count ≤ length into → 0 < length into → (count ≡ 0 → 0 < length into → IsAtEnd left)
+    → (take count into ≡ []) ⊎ (most_stream < taken + length (take count into)) → IsEnd left taken (take count into)
+no_piece into count taken left within room at-end end =
     elim end [
       | inl none ↦ inl (none, at-end (nothing_taken into count within none) room)
-      | inr full ↦ inr full
+      | inr much ↦ inr much
     ]
 
-pub receives : (a b : Option Visits) (into : List ℕ) (count : ℕ) (old new : Kept) (taken total : ℕ) (result : Taken) → count ≤ length into → 0 < length into → Befalls (ReadOf into count) a b
+short_piece : (into : List ℕ) (count : ℕ) → count ≤ length into → length into ≤ piece_length → length (take count into) ≤ piece_length
+short_piece into count within size = omega (arith, length-take-le count into within, within, size)
+
+pub receives : (a b : Option Visits) (into : List ℕ) (count : ℕ) (old new : Kept) (taken total : ℕ) (result : Taken) → count ≤ length into → 0 < length into → length into ≤ piece_length → Befalls (ReadOf into count) a b
     → Feeds (take count into) old new taken total result → Receives a b old new taken total result
-receives a b into count old new taken total Piece within room read feeds =
-    (take count into, befalls_so (ReadOf into count) (Exchanged (take count into) []) a b (λ v w r. r.0) read, feeds)
-receives a b into count old new taken total End within room read feeds =
-    (take count into, befalls_so (ReadOf into count) (ReadsLast old taken (take count into)) a b (λ v w r. (r.0, no_piece into count old taken (Some w.left) within room r.1 feeds)) read)
-receives a b into count old new taken total ReadFault within room read feeds = absurd feeds
-receives a b into count old new taken total NoMemory within room read feeds =
+receives a b into count old new taken total Piece within room size read feeds =
+    (take count into, short_piece into count within size, befalls_so (ReadOf into count) (Exchanged (take count into) []) a b (λ v w r. r.0) read, feeds)
+receives a b into count old new taken total End within room size read feeds = (
+  take count into,
+  short_piece into count within size,
+  befalls_so (ReadOf into count) (ReadsLast taken (take count into)) a b (λ v w r. (r.0, no_piece into count taken (Some w.left) within room r.1 feeds)) read,
+)
+receives a b into count old new taken total ReadFault within room size read feeds = absurd feeds
+receives a b into count old new taken total NoMemory within room size read feeds =
     (take count into, befalls_so (ReadOf into count) (Exchanged (take count into) []) a b (λ v w r. r.0) read)
 
 -- ---- one write
@@ -235,25 +242,33 @@ from_begun input stream text v w is one =
 whole_input : (input stream text : List ℕ) (w : Visit) → Begun input stream text w → input_of w ≡ input
 whole_input input stream text w begun-so = ap (λ (t : List ℕ). t ++ w.left) begun-so.taken ∙ sym begun-so.parts
 
+all_taken : (stream taken : List ℕ) → taken ≡ stream → taken ≡ stream ++ []
+all_taken stream taken is = is ∙ sym (append-nil stream)
+
 abbrev over : Conversed
 over = ends.Over
 
 pub over_at_end : (a b c : Option Visits) (origin s : ServerState) (kept : Kept) (taken : ℕ) (piece : List ℕ) → Resting origin (DoorTells a b) kept s taken
-    → Befalls (ReadsLast kept taken piece) b c → Befalls (Converses origin s over) a c
-over_at_end a b c origin s kept taken piece resting last =
+    → length piece ≤ piece_length → Befalls (ReadsLast taken piece) b c → Befalls (Converses origin s over) a c
+over_at_end a b c origin s kept taken piece resting short last =
     let serving = resting.serving in
     let stream = serving.stream in
     let text = (answers origin serving.given).0 in
-    befalls_then (Exchanged stream text) (ReadsLast kept taken piece) (Converses origin s over) a b c
+    befalls_then (Exchanged stream text) (ReadsLast taken piece) (Converses origin s over) a b c
     (λ u v w one two input is.
-    let before = from_begun input stream text u v is one in
     let now = from_begun input (stream ++ piece) text u w is (read_then stream text piece u v w one two.0) in
     let same : input_of w ≡ input = whole_input input (stream ++ piece) text w now in (
       same,
       record {
         stream = stream;
         given = serving.given;
-        heard = inl (v.left, no_fault, same ∙ before.parts, resting.all.items, whole_at v.left stream piece serving.given (Some w.left) kept taken two.0.left resting.all serving.counted two.1);
+        heard = inl (record {
+          unused = piece;
+          fault = no_fault;
+          parts = now.taken;
+          items = resting.all.items;
+          whole = whole_at stream piece w.left taken serving.counted short two.1;
+        });
         sent = inl (now.failed_writes, now.written);
         state = ap (λ (t : ServerState). servers.hung_up t) serving.state;
       },
@@ -272,7 +287,13 @@ over_closed a b origin s closing =
       record {
         stream = stream;
         given = closing.given;
-        heard = inl (w.left, Some closing.fault, same ∙ now.parts, closing.items, tt);
+        heard = inl (record {
+          unused = [];
+          fault = Some closing.fault;
+          parts = all_taken stream w.taken now.taken;
+          items = closing.items;
+          whole = (refl, closing.fault_new);
+        });
         sent = inl (now.failed_writes, now.written);
         state = ap (λ (t : ServerState). servers.hung_up t) closing.state;
       },
@@ -281,9 +302,6 @@ over_closed a b origin s closing =
 
 one_failed : (count : ℕ) → count ≡ 0 → 0 < one_more count
 one_failed count none = rw none (omega arith)
-
-all_taken : (stream taken : List ℕ) → taken ≡ stream → taken ≡ stream ++ []
-all_taken stream taken is = is ∙ sym (append-nil stream)
 
 pub over_unread : (a b : Option Visits) (origin s : ServerState) → Partly origin (TellsUnread a b) s → Befalls (Converses origin s over) a b
 over_unread a b origin s partly =

@@ -1,12 +1,12 @@
 -- The items of a connection, one more at a time.
-use Rattle.std.proofs.Common.{◌≡◌, ℕ, List, [], ◌∷◌, ◌++◌, Option, Some, None, true, false, refl, sym, ap, ◌∙◌, subst, append_assoc}
+use Rattle.std.proofs.Common.{◌≡◌, ℕ, ◌<◌, List, [], ◌∷◌, ◌++◌, Option, Some, None, true, false, refl, sym, ap, ◌∙◌, subst, append_assoc}
 use Rattle.std.specs.Prelude.{Bool, Result, Ok, Err}
 use Rattle.std.proofs.lemmas.List.{append-nil}
 use Rattle.rpc_calls.specs.declared.intake_fault.IntakeFault.{IntakeFault}
 use Rattle.rpc_calls.specs.declared.item.Item.{Item}
 use Rattle.rpc_calls.specs.declared.side.Side.{Side}
 use Rattle.rpc_calls.specs.declared.side.Side.TheVariants.{Server}
-use Rattle.rpc_calls.specs.Intakes.{AtEnd, Holds, Kept, NextIs, NumbersAre, Stays, no_fault}
+use Rattle.rpc_calls.specs.Intakes.{FewWait, Holds, Kept, NextIs, NumbersAre, Stays, no_fault}
 use Rattle.rpc_calls.specs.Streams.{Items}
 use Rattle.registry_server.specs.Answers.{answer_to, answers, text_of}
 use Rattle.registry_server.specs.Servers.{ServerState}
@@ -15,6 +15,7 @@ use Rattle.clus_cli.specs.declared.connection.Reaction.{Reaction}
 use Rattle.clus_cli.specs.declared.connection.Reaction.TheVariants as reactions
 use Rattle.clus_cli.specs.Connections.{AnswersItem, AreLast, Follows, IsDrained, Reacts}
 use Rattle.clus_cli.proofs.AnswerLaws.{answers-item}
+use Rattle.clus_cli.proofs.RoomLaws.{few_wait}
 
 abbrev pub an_item : Item → Result (Option Item) IntakeFault
 an_item item = Ok (Some item)
@@ -43,14 +44,13 @@ reacts_item old new item before now reactions.Closed next stays answered stream 
 on_server : (side : Side) (stream : List ℕ) (given : List Item) (fault : Option IntakeFault) → side ≡ Server → Items side stream given fault → Items Server stream given fault
 on_server side stream given fault is items = subst (λ (s : Side). Items s stream given fault) is items
 
-pub reacts_none : (old new : Kept) (before : ServerState) → NextIs no_more old new → NumbersAre no_more old new → Stays old new
+pub reacts_none : (old new : Kept) (before : ServerState) → NextIs no_more old new → NumbersAre no_more old new → FewWait no_more new → Stays old new
     → (stream : List ℕ) (given : List Item) → Follows old stream given → Reacts stream given before new before reactions.Waits
-reacts_none old new before next numbers stays stream given follows =
+reacts_none old new before next numbers few stays stream given follows =
     let now = next stream given follows.holds in
     let server : new.side ≡ Server = stays.side ∙ follows.server in
-    let waiting : AtEnd Server stream given no_fault new.unprocessed new.unfinished =
-    subst (λ (s : Side). AtEnd s stream given no_fault new.unprocessed new.unfinished) server (numbers stream given follows.holds) in
-    (refl, record { holds = now.0; server = server }, record { items = on_server new.side stream given no_fault server now.1; waiting = waiting })
+    let waiting : new.unprocessed < 65536 = few_wait new stream given now.0 (numbers stream given follows.holds) few in
+    (refl, record { holds = now.0; server = server }, record { items = on_server new.side stream given no_fault server now.1; few = waiting })
 
 -- A fault of the stream closes the connection.
 abbrev pub Faulty : Kept → Kept → IntakeFault → Type 0

@@ -2,8 +2,10 @@ pub mod AnswerLaws
 pub mod BadLogs
 pub mod DoorLaws
 pub mod DrainLaws
+pub mod EndLaws
 pub mod NumberLaws
 pub mod OpenLaws
+pub mod RoomLaws
 pub mod ServeLaws
 pub mod ServingLaws
 pub mod SessionLaws

@@ -1,5 +1,5 @@
 -- What opening the log comes to.
-use Rattle.std.proofs.Common.{◌≡◌, ℕ, ◌≤◌, IsTrue, List, Err, Ok, refl, sym, subst, inl, inr}
+use Rattle.std.proofs.Common.{ℕ, IsTrue, List, Err, Ok, refl, subst, inl, inr}
 use Rattle.disk_core.specs.Views.{DiskView}
 use Rattle.quorum_log.specs.declared.fault.OpenFault.{OpenFault}
 use Rattle.quorum_log.specs.declared.fault.OpenFault.TheVariants as faults

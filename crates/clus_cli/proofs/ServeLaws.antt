@@ -1,20 +1,19 @@
 -- A stream that is taken in pieces and answered piece by piece.
-use Rattle.std.proofs.Common.{◌≡◌, ℕ, ◌+◌, ◌<◌, ◌≤◌, List, [], ◌++◌, length, Option, Some, None, true, false, refl, sym, ap, ◌∙◌, subst, length-append, arith, inl, inr}
+use Rattle.std.proofs.Common.{◌≡◌, ℕ, ◌+◌, ◌≤◌, List, [], ◌++◌, length, Some, true, false, refl, sym, ap, ◌∙◌, subst, length-append, arith, inl, inr}
 use Rattle.std.specs.Prelude.{Bool}
-use Rattle.std.specs.Io.KnownBytes.{Consumes, IsAtEnd}
 use Rattle.rpc_calls.specs.declared.intake_fault.IntakeFault.{IntakeFault}
 use Rattle.rpc_calls.specs.declared.item.Item.{Item}
 use Rattle.rpc_calls.specs.declared.side.Side.{Side}
 use Rattle.rpc_calls.specs.declared.side.Side.TheVariants.{Server}
 use Rattle.rpc_calls.specs.Assembly.{no_call}
-use Rattle.rpc_calls.specs.Intakes.{Holds, Kept, fresh, most_unprocessed, no_fault}
+use Rattle.rpc_calls.specs.Intakes.{Holds, Kept, fresh, no_fault}
 use Rattle.rpc_calls.specs.Streams.{Items, Reads, Runs}
 use Rattle.registry_server.specs.Answers.{answers}
 use Rattle.registry_server.specs.Servers.{ServerState}
 use Rattle.clus_cli.specs.declared.connection.Drained.{Drained}
 use Rattle.clus_cli.specs.Connections.{AreAll, AreLast, Follows}
 use Rattle.clus_cli.specs.Pieces.{IsEnd, IsFed}
-use Rattle.clus_cli.specs.Session.{AreFirst, IsWhole, most_stream, piece_length}
+use Rattle.clus_cli.specs.Session.{AreFirst, IsFaultNew, IsWhole, most_stream, piece_length}
 use Rattle.clus_cli.proofs.AnswerLaws.{answers-append}
 use Rattle.clus_cli.proofs.DrainLaws.{DrainsAny}
 
@@ -55,7 +54,7 @@ starts origin link holds linked = record {
   };
   all = record {
     items = ([], no_call, [], nothing_read, tt);
-    waiting = record { frames = []; leave = record { left = no_call; rest = []; reads = nothing_read; bytes = refl; stub = refl }; stops = tt };
+    few = omega arith;
   };
 }
 
@@ -63,17 +62,27 @@ starts origin link holds linked = record {
 abbrev pub TakesMore : Link → Link → List ℕ → Type 0
 TakesMore link next piece = (stream text : List ℕ) → link stream text → next (stream ++ piece) text
 
-pub feeds : (origin : ServerState) (link next : Link) (kept new : Kept) (s : ServerState) (taken count : ℕ) (piece : List ℕ) → Serving origin link kept s taken
-    → TakesMore link next piece → count ≡ taken + length piece → count ≤ most_stream → IsFed kept new piece → Serving origin next new s count
-feeds origin link next kept new s taken count piece serving more counted limit fed = record {
-  stream = serving.stream ++ piece;
-  given = serving.given;
-  follows = fed serving.stream serving.given serving.follows;
-  state = serving.state;
-  linked = more serving.stream (answers origin serving.given).0 serving.linked;
-  counted = counted ∙ ap (λ (n : ℕ). n + length piece) serving.counted ∙ sym (length-append serving.stream piece);
-  limit = limit;
-}
+-- A stream whose fault, where it has one, is in its last piece.
+pub record Fed (origin : ServerState) (link : Link) (kept : Kept) (s : ServerState) (taken : ℕ) : Type 0 where
+  pub serving : Serving origin link kept s taken
+  pub fault_new : IsFaultNew serving.stream
+
+pub feeds : (origin : ServerState) (link next : Link) (kept new : Kept) (s : ServerState) (taken count : ℕ) (piece : List ℕ) → Resting origin link kept s taken
+    → length piece ≤ piece_length → TakesMore link next piece → count ≡ taken + length piece → count ≤ most_stream → IsFed kept new piece → Fed origin next new s count
+feeds origin link next kept new s taken count piece resting short more counted limit fed =
+    let before = resting.serving in
+    record {
+      serving = record {
+        stream = before.stream ++ piece;
+        given = before.given;
+        follows = fed before.stream before.given before.follows;
+        state = before.state;
+        linked = more before.stream (answers origin before.given).0 before.linked;
+        counted = counted ∙ ap (λ (n : ℕ). n + length piece) before.counted ∙ sym (length-append before.stream piece);
+        limit = limit;
+      };
+      fault_new = record { before = before.stream; piece = piece; items_before = before.given; parts = refl; short = short; whole = resting.all.items };
+    }
 
 -- ---- behind a drain
 
@@ -117,12 +126,14 @@ pub record Closing (origin : ServerState) (link : Link) (s : ServerState) : Type
   pub given : List Item
   pub fault : IntakeFault
   pub items : Items Server stream given (Some fault)
+  pub fault_new : IsFaultNew stream
   pub state : s ≡ (answers origin given).1
   pub linked : link stream (answers origin given).0
 
-pub closes : (origin : ServerState) (link next : Link) (kept new : Kept) (s t : ServerState) (taken : ℕ) (drained : Drained) → Serving origin link kept s taken
+pub closes : (origin : ServerState) (link next : Link) (kept new : Kept) (s t : ServerState) (taken : ℕ) (drained : Drained) → Fed origin link kept s taken
     → drained.is_closed ≡ true → DrainsAny kept s new t drained → WritesMore link next drained.replies.items → Closing origin next t
-closes origin link next kept new s t taken drained serving closed drains more =
+closes origin link next kept new s t taken drained fed closed drains more =
+    let serving = fed.serving in
     let drain = drains serving.stream serving.given serving.follows in
     let Last : Bool → Type 0 = λ b. AreLast b serving.stream (serving.given ++ drain.more) new in
     let last : AreLast true serving.stream (serving.given ++ drain.more) new = subst Last closed drain.last in
@@ -131,6 +142,7 @@ closes origin link next kept new s t taken drained serving closed drains more =
       given = serving.given ++ drain.more;
       fault = last.0;
       items = last.1;
+      fault_new = fed.fault_new;
       state = state_then origin s t serving.given drain.more serving.state drain.state;
       linked = subst (λ (text : List ℕ). next serving.stream text) (text_then origin s serving.given drain.more drained.replies.items serving.state drain.replies)
           (more serving.stream (answers origin serving.given).0 serving.linked);
@@ -180,20 +192,9 @@ breaks_off origin link next kept new s t taken drained serving drains more =
 
 -- ---- why no more is taken
 
-nothing_left : (behind piece : List ℕ) (now : Option (List ℕ)) → Consumes (Some behind) now piece → piece ≡ [] → IsAtEnd now → behind ≡ []
-nothing_left behind piece None consumed none at-end = absurd consumed
-nothing_left behind piece (Some rest) consumed none at-end = consumed ∙ ap (λ (p : List ℕ). p ++ rest) none ∙ at-end
-
-pub whole_at : (behind stream piece : List ℕ) (given : List Item) (now : Option (List ℕ)) (kept : Kept) (taken : ℕ) → Consumes (Some behind) now piece → AreAll kept stream given → taken ≡ length stream
-    → IsEnd now kept taken piece → IsWhole stream behind given no_fault
-whole_at behind stream piece given now kept taken consumed all counted end =
+pub whole_at : (stream piece left : List ℕ) (taken : ℕ) → taken ≡ length stream → length piece ≤ piece_length → IsEnd (Some left) taken piece → IsWhole stream piece left no_fault
+whole_at stream piece left taken counted short end =
     elim end [
-      | inl nothing ↦ inl (nothing_left behind piece now consumed nothing.0 nothing.1)
-      | inr full ↦ elim full [
-        | inl long ↦ inr (inl (let within : most_stream < length stream + piece_length = rw (← counted) long in within))
-        | inr backlog ↦
-            let leave = all.waiting.leave in
-            let short : most_unprocessed < length leave.rest + piece_length = rw (← leave.bytes) backlog in
-            inr (inr (all.waiting.frames, leave.left, leave.rest, leave.reads, short))
-      ]
+      | inl nothing ↦ inl nothing
+      | inr much ↦ inr (record { short = short; long = rw (← counted) much })
     ]

@@ -1,5 +1,5 @@
 -- A session: what its input still has, and what its output holds.
-use Rattle.std.proofs.Common.{◌≡◌, ℕ, List, [], ◌++◌, Option, Some, None, refl, subst}
+use Rattle.std.proofs.Common.{◌≡◌, ℕ, ◌≤◌, List, [], ◌++◌, length, Option, Some, None, refl, ap, ◌∙◌, subst}
 use Rattle.std.specs.Prelude.{IfSome}
 use Rattle.std.specs.Io.KnownBytes.{Consumes}
 use Rattle.std.proofs.KnownBytes.{Consumes-trans}
@@ -10,7 +10,7 @@ use Rattle.rpc_calls.specs.declared.side.Side.TheVariants.{Server}
 use Rattle.rpc_calls.specs.Intakes.{Holds, Kept, fresh, no_fault}
 use Rattle.registry_server.specs.Servers.{ServerState, new_server}
 use Rattle.clus_cli.specs.Pieces.{IsEnd}
-use Rattle.clus_cli.specs.Session.{IsAnswered, IsAnsweredInPart}
+use Rattle.clus_cli.specs.Session.{IsAnswered, IsAnsweredInPart, piece_length}
 use Rattle.clus_cli.proofs.AnswerLaws.{some_of_more, some_then, wrote_nothing}
 use Rattle.clus_cli.proofs.ServeLaws.{Closing, Link, Partly, Resting, TakesMore, WritesMore, starts, stops, whole_at}
 
@@ -62,26 +62,41 @@ not_begun left held holds =
     in_part left left held held (new_server 1) (stops (new_server 1) (Told left left held held) (ToldInPart left left held held) (fresh Server) (new_server 1) 0 resting.serving (all_is_some left left held held))
 
 pub closed : (first left held holds : Option (List ℕ)) (s : ServerState) → Closing (new_server 1) (Told first left held holds) s
-    → IfSome first (λ input. IsAnswered input held holds)
+    → IfSome first (λ input. IsAnswered input left held holds)
 closed None left held holds s closing = tt
 closed (Some input) left held holds s closing =
     let (behind, left-is, parts) = parts_are input left closing.stream closing.linked.0 in
-    record { stream = closing.stream; behind = behind; given = closing.given; fault = Some closing.fault; parts = parts; items = closing.items; whole = tt; wrote = closing.linked.1 }
+    record {
+      stream = closing.stream;
+      unused = [];
+      left = behind;
+      given = closing.given;
+      fault = Some closing.fault;
+      parts = parts;
+      rest = left-is;
+      items = closing.items;
+      whole = (refl, closing.fault_new);
+      wrote = closing.linked.1;
+    }
 
 pub done_at : (first left now held holds : Option (List ℕ)) (kept : Kept) (s : ServerState) (taken : ℕ) (piece : List ℕ) → Resting (new_server 1) (Told first left held holds) kept s taken
-    → Consumes left now piece → IsEnd now kept taken piece → IfSome first (λ input. IsAnswered input held holds)
-done_at None left now held holds kept s taken piece resting consumed end = tt
-done_at (Some input) left now held holds kept s taken piece resting consumed end =
+    → length piece ≤ piece_length → Consumes left now piece → IsEnd now taken piece → IfSome first (λ input. IsAnswered input now held holds)
+done_at None left now held holds kept s taken piece resting short consumed end = tt
+done_at (Some input) left now held holds kept s taken piece resting short consumed end =
     let serving = resting.serving in
     let (behind, left-is, parts) = parts_are input left serving.stream serving.linked.0 in
     let at-left : Consumes (Some behind) now piece = subst (λ (l : Option (List ℕ)). Consumes l now piece) left-is consumed in
+    let (rest, now-is, behind-is) = parts_are behind now piece at-left in
+    let at-rest : IsEnd (Some rest) taken piece = subst (λ (l : Option (List ℕ)). IsEnd l taken piece) now-is end in
     record {
       stream = serving.stream;
-      behind = behind;
+      unused = piece;
+      left = rest;
       given = serving.given;
       fault = no_fault;
-      parts = parts;
+      parts = parts ∙ ap (λ (t : List ℕ). serving.stream ++ t) behind-is;
+      rest = now-is;
       items = resting.all.items;
-      whole = whole_at behind serving.stream piece serving.given now kept taken at-left resting.all serving.counted end;
+      whole = whole_at serving.stream piece rest taken serving.counted short at-rest;
       wrote = serving.linked.1;
     }

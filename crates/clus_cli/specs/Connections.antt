@@ -3,7 +3,7 @@ use Rattle.std.specs.Prelude.{◌≡◌, ℕ, ◌<◌, List, [], ◌∷◌, ◌+
 use Rattle.rpc_calls.specs.declared.intake_fault.IntakeFault.{IntakeFault}
 use Rattle.rpc_calls.specs.declared.item.Item.{Item}
 use Rattle.rpc_calls.specs.declared.side.Side.TheVariants.{Server}
-use Rattle.rpc_calls.specs.Intakes.{AtEnd, Holds, Kept, no_fault}
+use Rattle.rpc_calls.specs.Intakes.{Holds, Kept, no_fault}
 use Rattle.rpc_calls.specs.Streams.{Items}
 use Rattle.registry_server.specs.Answers.{answer_to, answers, text_of}
 use Rattle.registry_server.specs.Servers.{ServerState}
@@ -16,10 +16,11 @@ pub record Follows (kept : Kept) (stream : List ℕ) (given : List Item) : Type 
   pub holds : Holds kept stream given
   pub server : kept.side ≡ Server
 
--- They are all items of the stream, which has no fault, and the number tells how many bytes wait behind them.
+-- They are all items of the stream, which has no fault, and the bytes that wait behind them are fewer than the longest
+-- fragment has.
 pub record AreAll (kept : Kept) (stream : List ℕ) (given : List Item) : Type 0 where
   pub items : Items Server stream given no_fault
-  pub waiting : AtEnd Server stream given no_fault kept.unprocessed kept.unfinished
+  pub few : kept.unprocessed < 65536
 
 -- ---- one item
 

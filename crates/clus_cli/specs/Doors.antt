@@ -1,5 +1,5 @@
 -- What the steps of `serve` make of the connection that is present.
-use Rattle.std.specs.Prelude.{◌≡◌, ℕ, List, [], ◌++◌, take, Option, Some, Result, Ok, Err, ⊤}
+use Rattle.std.specs.Prelude.{◌≡◌, ℕ, ◌≤◌, List, [], ◌++◌, length, take, Option, Some, Result, Ok, Err, ⊤}
 use Rattle.edge_io.specs.declared.failed.Failed.{Failed}
 use Rattle.edge_io.specs.Visits.{Tells, Visit, Visits, begun, failed_read, failed_write}
 use Rattle.edge_io.specs.Visits as doors
@@ -13,6 +13,7 @@ use Rattle.clus_cli.specs.declared.serving.Conversed.TheVariants as ends
 use Rattle.clus_cli.specs.declared.status.Status.{Status}
 use Rattle.clus_cli.specs.declared.status.Status.TheVariants as statuses
 use Rattle.clus_cli.specs.Pieces.{Feeds, IsEnd}
+use Rattle.clus_cli.specs.Session.{piece_length}
 use Rattle.clus_cli.specs.Serving.{IsServed, IsServedInPart, Serves, input_of}
 
 abbrev pub with_present : Visits → Visit → Visits
@@ -33,12 +34,14 @@ pub record Exchanged (stream text : List ℕ) (v w : Visit) : Type 0 where
 
 -- ---- one piece
 
-abbrev pub ReadsLast : Kept → ℕ → List ℕ → Visit → Visit → Type 0
-ReadsLast kept taken piece v w = Exchanged piece [] v w × IsEnd (Some w.left) kept taken piece
+abbrev pub ReadsLast : ℕ → List ℕ → Visit → Visit → Type 0
+ReadsLast taken piece v w = Exchanged piece [] v w × IsEnd (Some w.left) taken piece
 
+-- At most so many bytes are read at once.
 abbrev pub Receives : Option Visits → Option Visits → Kept → Kept → ℕ → ℕ → Taken → Type 0
-Receives before now old new taken count Piece = (piece : List ℕ) × Befalls (Exchanged piece []) before now × Feeds piece old new taken count Piece
-Receives before now old new taken count End = (piece : List ℕ) × Befalls (ReadsLast old taken piece) before now
+Receives before now old new taken count Piece =
+    (piece : List ℕ) × (length piece ≤ piece_length) × Befalls (Exchanged piece []) before now × Feeds piece old new taken count Piece
+Receives before now old new taken count End = (piece : List ℕ) × (length piece ≤ piece_length) × Befalls (ReadsLast taken piece) before now
 Receives before now old new taken count ReadFault = Befalls (λ v w. w ≡ failed_read v) before now
 Receives before now old new taken count NoMemory = (piece : List ℕ) × Befalls (Exchanged piece []) before now
 

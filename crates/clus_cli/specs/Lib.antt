@@ -1,6 +1,7 @@
 pub mod Commands
 pub mod Connections
 pub mod Doors
+pub mod Ends
 pub mod Pieces
 pub mod Serving
 pub mod Session

@@ -25,9 +25,12 @@ abbrev pub IsBroken : Visit → Type 0
 IsBroken visit = (0 < visit.failed_reads) ⊎ (0 < visit.failed_writes)
 
 -- The stream was read as far as one connection is, and these are all its items before its fault.
-abbrev pub IsHeardOut : Visit → List ℕ → List Item → Type 0
-IsHeardOut visit stream given =
-    (behind : List ℕ) × (fault : Option IntakeFault) × (input_of visit ≡ stream ++ behind) × Items Server stream given fault × IsWhole stream behind given fault
+pub record IsHeardOut (visit : Visit) (stream : List ℕ) (given : List Item) : Type 0 where
+  pub unused : List ℕ
+  pub fault : Option IntakeFault
+  pub parts : visit.taken ≡ stream ++ unused
+  pub items : Items Server stream given fault
+  pub whole : IsWhole stream unused visit.left fault
 
 -- The stream is a front of what was read, and these are its first items.
 abbrev pub IsHeardInPart : Visit → List ℕ → List Item → Type 0

@@ -3,7 +3,7 @@
 ghost use Rattle.std.specs.Prelude.{◌≡◌, ◌≤◌, length};
 ghost use Rattle.causes.specs.Counts.{Rose};
 ghost use Rattle.rpc_calls.specs.Intakes.{stream_length};
-ghost use Rattle.clus_cli.specs.Pieces.{Feeds, Takes};
+ghost use Rattle.clus_cli.specs.Pieces.{Feeds, HasRoom, Takes};
 ghost use Rattle.clus_cli.specs.Session.{most_stream, piece_length};
 
 use edge_io::{Failed, Source};
@@ -29,6 +29,7 @@ pub(crate) enum Taken {
 pub(crate) fn take_piece<S: Source>(input: &mut S, intake: &mut Intake, taken: &mut u64) -> Taken
     requires counted { stream_length intake.old ≡ taken.old }
     requires limit { taken.old ≤ most_stream }
+    requires room { HasRoom intake.old }
     ensures takes { Takes (S.left input.old) (S.left input.new) intake.old intake.new taken.old taken.new result }
     ensures later { S.faults input.old ≤ S.faults input.new }
     ensures cause { result ≡ Taken.ReadFault → Rose (S.faults input.old) (S.faults input.new) }
@@ -40,10 +41,11 @@ pub(crate) fn take_piece<S: Source>(input: &mut S, intake: &mut Intake, taken: &
     }
 }
 
-/// Hands the piece to the intake, where there is room for a whole one; an empty piece is the end.
+/// Hands the piece to the intake, unless it is too much; an empty piece is the end.
 pub(crate) fn feed_piece(intake: &mut Intake, taken: &mut u64, piece: &[u8]) -> Taken
     requires counted { stream_length intake.old ≡ taken.old }
     requires limit { taken.old ≤ most_stream }
+    requires room { HasRoom intake.old }
     requires size { length piece.now ≤ piece_length }
     ensures { Feeds piece.now intake.old intake.new taken.old taken.new result }
 {
@@ -56,7 +58,7 @@ pub(crate) fn feed_piece(intake: &mut Intake, taken: &mut u64, piece: &[u8]) -> 
             *taken += size;
             Taken::Piece
         }
-        Err(FeedFault::Backlog) => Taken::End,
+        Err(FeedFault::Backlog) => unreachable!(),
         Err(FeedFault::Memory) => Taken::NoMemory,
     }
 }

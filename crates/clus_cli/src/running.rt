@@ -4,6 +4,7 @@ ghost use Rattle.std.specs.Prelude.{◌≡◌, ◌≢◌, ◌<◌, ◌≤◌, �
 ghost use Rattle.causes.specs.Counts.{Rose};
 ghost use Rattle.edge_io.specs.Visits.{Tells};
 ghost use Rattle.clus_cli.specs.Commands.{AsksSession, AsksServe, AsksSomeServe, AsksFormat, AsksSomeFormat, IsCap, FormatRuns};
+ghost use Rattle.clus_cli.specs.Ends.{Ends, outside};
 ghost use Rattle.clus_cli.specs.Serving.{Serves};
 ghost use Rattle.clus_cli.specs.Session.{SessionEnds, Writes};
 ghost use Rattle.clus_cli.specs.Showlog.{AsksShowlog, ShowRuns};
@@ -29,6 +30,7 @@ use std::alloc::{AllocError, Global};
 /// each piece before it reads the next. `serve ADDR COUNT` does so for COUNT connections of the door at
 /// most, one after another; they share one registry. `format CAP` makes an empty log for a registry of
 /// at most CAP bytes, also over an old log. `showlog` prints the log.
+#[tactic(auto, using(crate::proofs::EndLaws::session_ends, crate::proofs::EndLaws::format_ends, crate::proofs::EndLaws::no_command_ends))]
 pub fn run<S: Source, K: Sink, D: Disk, G: Door>(
     alloc: Global,
     words: &[String],
@@ -38,7 +40,10 @@ pub fn run<S: Source, K: Sink, D: Disk, G: Door>(
     door: &mut G,
 ) -> Status
     requires disk_size { 34_209_856 ≤ (D.view disk.old).size }
-    ensures session { AsksSession (map string_bytes words.now) → IfSome (S.left input.old) (λ bytes. Writes bytes (K.written output.old) (K.written output.new) result) }
+    ensures ends { Ends (map string_bytes words.now) result
+        (outside (S.faults input.old) (K.faults output.old) (G.faults door.old).accept (D.view disk.old))
+        (outside (S.faults input.new) (K.faults output.new) (G.faults door.new).accept (D.view disk.new)) }
+    ensures session { AsksSession (map string_bytes words.now) → IfSome (S.left input.old) (λ bytes. Writes bytes (S.left input.new) (K.written output.old) (K.written output.new) result) }
     ensures serve { (address : List ℕ) (count : ℕ) → AsksServe (map string_bytes words.now) address count → Tells (G.visits door.old) (G.visits door.new) (Serves count result) }
     ensures format { (cap : ℕ) → AsksFormat (map string_bytes words.now) cap → FormatRuns cap (D.view disk.old) result (D.view disk.new) }
     ensures showlog { AsksShowlog (map string_bytes words.now) → ShowRuns (D.view disk.old) (K.written output.old) result (D.view disk.new) (K.written output.new) }
@@ -81,7 +86,7 @@ fn format_log<D: Disk>(disk: &mut D, cap: u32) -> Status
 }
 
 fn session<S: Source, K: Sink>(alloc: Global, input: &mut S, output: &mut K) -> Status
-    ensures written { IfSome (S.left input.old) (λ bytes. Writes bytes (K.written output.old) (K.written output.new) result) }
+    ensures written { IfSome (S.left input.old) (λ bytes. Writes bytes (S.left input.new) (K.written output.old) (K.written output.new) result) }
     ensures runs { SessionEnds result }
     ensures read { result ≡ Status.ReadFault → Rose (S.faults input.old) (S.faults input.new) }
     ensures write { result ≡ Status.WriteFault → Rose (K.faults output.old) (K.faults output.new) }

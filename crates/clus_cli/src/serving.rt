@@ -5,6 +5,7 @@ ghost use Rattle.causes.specs.Counts.{Rose};
 ghost use Rattle.edge_io.specs.Visits.{Tells};
 ghost use Rattle.rpc_calls.specs.Intakes.{stream_length};
 ghost use Rattle.clus_cli.specs.Doors.{Befalls, Converses, Receives, Sends, ServeEnds, ServesAll};
+ghost use Rattle.clus_cli.specs.Pieces.{HasRoom};
 ghost use Rattle.clus_cli.specs.Serving.{Serves};
 ghost use Rattle.clus_cli.specs.Session.{most_stream};
 
@@ -94,6 +95,7 @@ fn converse<G: Door>(alloc: Global, server: &mut Server, door: &mut G) -> Conver
 fn receive<G: Door>(door: &mut G, intake: &mut Intake, taken: &mut u64) -> Taken
     requires counted { stream_length intake.old ≡ taken.old }
     requires limit { taken.old ≤ most_stream }
+    requires room { HasRoom intake.old }
     ensures receives { Receives (G.visits door.old) (G.visits door.new) intake.old intake.new taken.old taken.new result }
     ensures accepts { (G.faults door.new).accept ≡ (G.faults door.old).accept }
 {

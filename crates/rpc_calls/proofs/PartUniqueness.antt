@@ -43,7 +43,7 @@ waits_no_longer : (s : List ℕ) (n : ℕ) (told : Option ℕ) → told ≡ Some
 waits_no_longer s n None is long waits = absurd cc
 waits_no_longer s n (Some m) is long waits = let same : m ≡ n = cc in absurd (omega (arith, waits.1))
 
-not_waiting : (frame more : List ℕ) → IsFrame frame → Waits (frame ++ more) → ⊥
+pub not_waiting : (frame more : List ℕ) → IsFrame frame → Waits (frame ++ more) → ⊥
 not_waiting frame more is waits =
     waits_no_longer (frame ++ more) (length frame) (peek_at (frame ++ more)) (told_front frame more is) (omega (arith, length-append frame more)) waits
 

@@ -13,7 +13,7 @@ returns-in-Ok-Some-clause-reacts c =
 pub returns-in-Ok-None-clause-reacts : goal.returns-in-Ok-None-clause-reacts
 returns-in-Ok-None-clause-reacts c =
     reacts_none c.args.intake.now c.next.new.self c.args.server.now
-    (rw c.in-Ok-None.field-0-is at c.in-Ok-None.ensures.gives) (rw c.in-Ok-None.field-0-is at c.in-Ok-None.ensures.numbers) c.in-Ok-None.ensures.stays
+    (rw c.in-Ok-None.field-0-is at c.in-Ok-None.ensures.gives) (rw c.in-Ok-None.field-0-is at c.in-Ok-None.ensures.numbers) (rw c.in-Ok-None.field-0-is at c.in-Ok-None.ensures.waits) c.in-Ok-None.ensures.stays
 
 pub returns-in-Err-Pdu-clause-reacts : goal.returns-in-Err-Pdu-clause-reacts
 returns-in-Err-Pdu-clause-reacts c =

@@ -2,7 +2,7 @@ use Rattle.std.proofs.Common.{arith}
 use Rattle.rpc_calls.specs.declared.side.Side.TheVariants.{Server}
 use Rattle.rpc_calls.proofs.HoldingLaws.{holds_nothing}
 use Rattle.registry_server.specs.Servers.{new_server}
-use Rattle.clus_cli.proofs.ServeLaws.{Serving, breaks_off, closes, feeds, rests, starts, stops}
+use Rattle.clus_cli.proofs.ServeLaws.{Fed, breaks_off, closes, feeds, rests, starts, stops}
 use Rattle.clus_cli.proofs.SessionLaws.{Told, ToldInPart, all_is_some, closed, done_at, in_part, not_begun, nothing_yet, reads_more, writes_more, writes_some}
 use Rattle.clus_cli.proofs.running.session.Goals as goal
 
@@ -18,11 +18,14 @@ pieces-init g c =
       later_out = omega arith;
     })
 
+pub take_piece-requires-clause-room : goal.take_piece-requires-clause-room
+take_piece-requires-clause-room g c = omega (arith, c.pieces.invariant.resting.all.few)
+
 pub returns-in-End-clause-written : goal.returns-in-End-clause-written
 returns-in-End-clause-written g c =
     let takes = c.in-End.ensures.takes in
     done_at (g.S.Source.left c.args.input.now) (g.S.Source.left c.pieces.input) (g.S.Source.left c.take_piece.new.input) (g.K.Sink.written c.args.output.now) (g.K.Sink.written c.pieces.output)
-    c.pieces.intake c.pieces.server c.pieces.taken takes.0 c.pieces.invariant.resting takes.1 takes.2
+    c.pieces.intake c.pieces.server c.pieces.taken takes.0 c.pieces.invariant.resting takes.1 takes.2 takes.3
 
 pub returns-in-ReadFault-clause-written : goal.returns-in-ReadFault-clause-written
 returns-in-ReadFault-clause-written g c =
@@ -49,13 +52,13 @@ returns-in-Err-write_whole-clause-written g c =
     let left = g.S.Source.left c.take_piece.new.input in
     let held = g.K.Sink.written c.args.output.now in
     let mid = g.K.Sink.written c.pieces.output in
-    let serving : Serving (new_server 1) (Told first left held mid) c.take_piece.new.intake c.pieces.server c.take_piece.new.taken =
+    let fed : Fed (new_server 1) (Told first left held mid) c.take_piece.new.intake c.pieces.server c.take_piece.new.taken =
     feeds (new_server 1) (Told first (g.S.Source.left c.pieces.input) held mid) (Told first left held mid) c.pieces.intake c.take_piece.new.intake c.pieces.server c.pieces.taken c.take_piece.new.taken takes.0
-    c.pieces.invariant.resting.serving (reads_more first (g.S.Source.left c.pieces.input) left held mid takes.0 takes.1) takes.2.1 takes.2.2 takes.2.3 in
+    c.pieces.invariant.resting takes.1 (reads_more first (g.S.Source.left c.pieces.input) left held mid takes.0 takes.2) takes.3.1 takes.3.2 takes.3.3 in
     let holds = g.K.Sink.written c.write_whole.new.sink in
     in_part first left held holds c.drain.new.server
     (breaks_off (new_server 1) (Told first left held mid) (ToldInPart first left held holds) c.take_piece.new.intake c.drain.new.intake c.pieces.server c.drain.new.server c.take_piece.new.taken c.in-Ok-drain.drained
-    serving c.in-Ok-drain.ensures.drained (writes_some first left held mid holds c.in-Ok-drain.drained.replies.items (rw c.deref.ensures.value at c.in-Err-write_whole.ensures.prefix)))
+    fed.serving c.in-Ok-drain.ensures.drained (writes_some first left held mid holds c.in-Ok-drain.drained.replies.items (rw c.deref.ensures.value at c.in-Err-write_whole.ensures.prefix)))
 
 pub returns-then-drained-clause-written : goal.returns-then-drained-clause-written
 returns-then-drained-clause-written g c =
@@ -64,13 +67,13 @@ returns-then-drained-clause-written g c =
     let left = g.S.Source.left c.take_piece.new.input in
     let held = g.K.Sink.written c.args.output.now in
     let mid = g.K.Sink.written c.pieces.output in
-    let serving : Serving (new_server 1) (Told first left held mid) c.take_piece.new.intake c.pieces.server c.take_piece.new.taken =
+    let fed : Fed (new_server 1) (Told first left held mid) c.take_piece.new.intake c.pieces.server c.take_piece.new.taken =
     feeds (new_server 1) (Told first (g.S.Source.left c.pieces.input) held mid) (Told first left held mid) c.pieces.intake c.take_piece.new.intake c.pieces.server c.pieces.taken c.take_piece.new.taken takes.0
-    c.pieces.invariant.resting.serving (reads_more first (g.S.Source.left c.pieces.input) left held mid takes.0 takes.1) takes.2.1 takes.2.2 takes.2.3 in
+    c.pieces.invariant.resting takes.1 (reads_more first (g.S.Source.left c.pieces.input) left held mid takes.0 takes.2) takes.3.1 takes.3.2 takes.3.3 in
     let holds = g.K.Sink.written c.write_whole.new.sink in
     closed first left held holds c.drain.new.server
     (closes (new_server 1) (Told first left held mid) (Told first left held holds) c.take_piece.new.intake c.drain.new.intake c.pieces.server c.drain.new.server c.take_piece.new.taken c.in-Ok-drain.drained
-    serving c.if-drained.true c.in-Ok-drain.ensures.drained (writes_more first left held mid holds c.in-Ok-drain.drained.replies.items (rw c.deref.ensures.value at c.in-Ok-write_whole.ensures.whole)))
+    fed c.if-drained.true c.in-Ok-drain.ensures.drained (writes_more first left held mid holds c.in-Ok-drain.drained.replies.items (rw c.deref.ensures.value at c.in-Ok-write_whole.ensures.whole)))
 
 pub pieces-preserved : goal.pieces-preserved
 pieces-preserved g c =
@@ -79,13 +82,13 @@ pieces-preserved g c =
     let left = g.S.Source.left c.take_piece.new.input in
     let held = g.K.Sink.written c.args.output.now in
     let mid = g.K.Sink.written c.pieces.output in
-    let serving : Serving (new_server 1) (Told first left held mid) c.take_piece.new.intake c.pieces.server c.take_piece.new.taken =
+    let fed : Fed (new_server 1) (Told first left held mid) c.take_piece.new.intake c.pieces.server c.take_piece.new.taken =
     feeds (new_server 1) (Told first (g.S.Source.left c.pieces.input) held mid) (Told first left held mid) c.pieces.intake c.take_piece.new.intake c.pieces.server c.pieces.taken c.take_piece.new.taken takes.0
-    c.pieces.invariant.resting.serving (reads_more first (g.S.Source.left c.pieces.input) left held mid takes.0 takes.1) takes.2.1 takes.2.2 takes.2.3 in
+    c.pieces.invariant.resting takes.1 (reads_more first (g.S.Source.left c.pieces.input) left held mid takes.0 takes.2) takes.3.1 takes.3.2 takes.3.3 in
     let holds = g.K.Sink.written c.write_whole.new.sink in
     record {
       resting = rests (new_server 1) (Told first left held mid) (Told first left held holds) c.take_piece.new.intake c.drain.new.intake c.pieces.server c.drain.new.server c.take_piece.new.taken c.in-Ok-drain.drained
-          serving c.if-drained.false c.in-Ok-drain.ensures.drained (writes_more first left held mid holds c.in-Ok-drain.drained.replies.items (rw c.deref.ensures.value at c.in-Ok-write_whole.ensures.whole));
+          fed.serving c.if-drained.false c.in-Ok-drain.ensures.drained (writes_more first left held mid holds c.in-Ok-drain.drained.replies.items (rw c.deref.ensures.value at c.in-Ok-write_whole.ensures.whole));
       later_in = omega (arith, c.pieces.invariant.later_in, c.in-Piece.ensures.later);
       later_out = omega (arith, c.pieces.invariant.later_out, c.in-Ok-write_whole.ensures.cause.later);
     }

@@ -1,4 +1,4 @@
-use Rattle.std.proofs.Common.{◌≤◌, ◌<◌, length, arith}
+use Rattle.std.proofs.Common.{◌≤◌, length, arith}
 use Rattle.std.proofs.lemmas.Result.{err_from_is_err_and}
 use Rattle.clus_cli.proofs.ShowLaws.{printed_all, printed_more, printed_part, printed_stopped}
 use Rattle.clus_cli.proofs.showing.print_records.Goals as goal

@@ -1,0 +1,73 @@
+-- How each command may end.
+use Rattle.std.specs.Prelude.{◌≡◌, ℕ, ◌<◌, IsTrue, List}
+use Rattle.causes.specs.Counts.{Rose}
+use Rattle.disk_core.specs.Views.{DiskView}
+use Rattle.clus_cli.specs.declared.status.Status.{Status}
+use Rattle.clus_cli.specs.declared.status.Status.TheVariants as statuses
+use Rattle.clus_cli.specs.Commands.{AsksFormat, AsksServe, AsksSession}
+use Rattle.clus_cli.specs.Showlog.{AsksShowlog, IsBadLog}
+
+pub data Asked : Type 0 where
+  session : Asked
+  serve : List ℕ → ℕ → Asked
+  format : ℕ → Asked
+  showlog : Asked
+
+abbrev pub Asks : List (List ℕ) → Asked → Type 0
+Asks words session = AsksSession words
+Asks words (serve address count) = AsksServe words address count
+Asks words (format cap) = AsksFormat words cap
+Asks words showlog = AsksShowlog words
+
+-- How many calls of each kind failed so far, and what the disk shows.
+pub record Outside : Type 0 where
+  pub reads : ℕ
+  pub writes : ℕ
+  pub accepts : ℕ
+  pub disk : DiskView
+
+abbrev pub outside : ℕ → ℕ → ℕ → DiskView → Outside
+outside reads writes accepts disk = record { reads = reads; writes = writes; accepts = accepts; disk = disk }
+
+abbrev pub FailedRead : Outside → Outside → Type 0
+FailedRead v w = Rose v.reads w.reads
+
+abbrev pub FailedWrite : Outside → Outside → Type 0
+FailedWrite v w = Rose v.writes w.writes
+
+abbrev pub FailedAccept : Outside → Outside → Type 0
+FailedAccept v w = Rose v.accepts w.accepts
+
+abbrev pub FailedDisk : Outside → Outside → Type 0
+FailedDisk v w = Rose v.disk.faults w.disk.faults
+
+-- The disk holds a greater fencing token than the command's, which is 1.
+abbrev pub HoldsGreater : Outside → ℕ → Type 0
+HoldsGreater v held = (1 < v.disk.current.held) × (held ≡ v.disk.current.held)
+
+abbrev pub HoldsBadLog : Outside → ℕ → Type 0
+HoldsBadLog v place = IsTrue v.disk.tells → IsBadLog v.disk.current.seen v.disk.size place
+
+-- Each command's statuses, and what was before where it ends so.
+abbrev pub MayEnd : Asked → Status → Outside → Outside → Type 0
+MayEnd session statuses.Done v w = Unit {0}
+MayEnd session statuses.ReadFault v w = FailedRead v w
+MayEnd session statuses.WriteFault v w = FailedWrite v w
+MayEnd session statuses.NoMemory v w = Unit {0}
+MayEnd (serve address count) statuses.Done v w = Unit {0}
+MayEnd (serve address count) statuses.ReadFault v w = FailedAccept v w
+MayEnd (serve address count) statuses.NoMemory v w = Unit {0}
+MayEnd (format cap) statuses.Done v w = Unit {0}
+MayEnd (format cap) statuses.DiskFault v w = FailedDisk v w
+MayEnd (format cap) (statuses.Fenced held) v w = HoldsGreater v held
+MayEnd showlog statuses.Done v w = Unit {0}
+MayEnd showlog statuses.WriteFault v w = FailedWrite v w
+MayEnd showlog statuses.DiskFault v w = FailedDisk v w
+MayEnd showlog statuses.NoMemory v w = Unit {0}
+MayEnd showlog (statuses.BadLog place) v w = HoldsBadLog v place
+MayEnd showlog (statuses.Fenced held) v w = HoldsGreater v held
+MayEnd asked status v w = ⊥
+
+-- The words that are no command have the one status Usage.
+unfoldable pub Ends : List (List ℕ) → Status → Outside → Outside → Type 0
+Ends words status v w = (asked : Asked) → Asks words asked → MayEnd asked status v w
