@@ -3,7 +3,7 @@
 
 use clus_cli::{Status, run, serve_count};
 use disk_core::FileDisk;
-use edge_io::{StdSink, StdSource, TcpDoor};
+use edge_io::{StandardStreams, StdSink, StdSource, TcpDoor};
 use std::alloc::AllocError;
 use std::process::ExitCode;
 use std::{env, io};
@@ -12,14 +12,22 @@ use std::{env, io};
 const LOG: &str = "quorum.log";
 
 fn main(rt: HostRuntime) -> ExitCode {
-    let status = match command_words(&rt) {
-        Ok(words) => run_words(&rt, &words),
-        Err(status) => status,
+    let status = match StandardStreams::keep(&rt) {
+        Ok(_streams) => run_command(&rt),
+        Err(_) => Status::DiskFault,
     };
     if status != Status::Done {
         tell(&rt, &status);
     }
     ExitCode::from(status.number())
+}
+
+/// Runs the command that the program was called with.
+fn run_command(rt: &HostRuntime) -> Status {
+    match command_words(rt) {
+        Ok(words) => run_words(rt, &words),
+        Err(status) => status,
+    }
 }
 
 /// Runs the command over the standard streams, the file of the log and the address that it names.

@@ -3,7 +3,7 @@
 
 use clus_cli::{Status, run};
 use disk_core::FileDisk;
-use edge_io::{ScriptDoor, StdSink, StdSource};
+use edge_io::{ScriptDoor, StandardStreams, StdSink, StdSource};
 use std::alloc::AllocError;
 use std::process::ExitCode;
 
@@ -11,6 +11,9 @@ use std::process::ExitCode;
 const LOG: &str = "stored_run.log";
 
 fn main(rt: HostRuntime) -> ExitCode {
+    let Ok(_streams) = StandardStreams::keep(&rt) else {
+        return ExitCode::from(Status::DiskFault.number());
+    };
     let status = match words_of(&rt, &["format", "4096"]) {
         Ok(words) => run_words(&rt, &words),
         Err(AllocError) => Status::NoMemory,
