@@ -1,6 +1,6 @@
 -- The results of a plan have encodings and are short, since the array of a query has the size that was asked for.
 use Rattle.std.proofs.Common.{◌≡◌, ℕ, ◌+◌, ◌-◌, ◌≤◌, Bool, true, false, List, [], ◌++◌, length, refl, Option, None, Some, Result, Ok, Err, IfOk, sym, subst, length-append, arith}
-use Rattle.std.specs.Prelude.{nat_lt, nat_le, replicate, IfSome, IsTrue, if◌then◌else◌}
+use Rattle.std.specs.Prelude.{nat_lt, replicate, IfSome, IsTrue, if◌then◌else◌}
 use Rattle.std.proofs.lemmas.Bool.{leb-true, ltb-false}
 use Rattle.std.proofs.lemmas.List.{length-replicate}
 use Rattle.clus_names.specs.Folding.{folded, folded_parts}
@@ -16,14 +16,14 @@ use Rattle.clusapi_stubs.specs.declared.input.In.TheVariants as call
 use Rattle.clusapi_stubs.specs.declared.output.Out.{Out}
 use Rattle.clusapi_stubs.specs.declared.output.Out.TheVariants.{CloseCluster, CloseKey, CreateKey, DeleteKey, DeleteValue, EnumKey, EnumValue, GetClusterName, GetRootKey, OpenCluster, OpenKey, QueryInfoKey, QueryValue, SetValue}
 use Rattle.clusapi_stubs.specs.Inputs.{size_fits}
-use Rattle.clusapi_stubs.specs.Outputs.{CanSpell, IsArray, IsText}
+use Rattle.clusapi_stubs.specs.Outputs.{CanSpell, IsText}
 use Rattle.clusapi_methods.specs.declared.planned.Planned.{Planned}
 use Rattle.clusapi_methods.specs.declared.planned.Planned.TheVariants.{Answer, Close, Fault, Open, Send}
 use Rattle.clusapi_methods.specs.Arguments.{refusal}
 use Rattle.clusapi_methods.specs.Finishing.{CanFollow}
 use Rattle.clusapi_methods.specs.Plans.{if_open, opened_at, performed, planned_at, told, unless_refused}
 use Rattle.clusapi_methods.specs.Refusals.{refused}
-use Rattle.clusapi_methods.specs.Results.{entry_out, entry_told, info_told, key_told, value_out, value_told}
+use Rattle.clusapi_methods.specs.Results.{entry_told, info_told, key_told, value_told}
 use Rattle.clusapi_methods.specs.Sizes.{FollowsBounded, IsBounded, IsFew, IsShort, IsShortFor, IsShortText}
 
 -- ---- the array of a query

@@ -1,5 +1,5 @@
 -- How long results may be.
-use Rattle.std.specs.Prelude.{◌≡◌, ℕ, ◌≤◌, List, length, IfSome, IsTrue}
+use Rattle.std.specs.Prelude.{ℕ, ◌≤◌, List, length, IfSome, IsTrue}
 use Rattle.clusapi_stubs.specs.declared.input.In.{In}
 use Rattle.clusapi_stubs.specs.declared.output.Out.{Out}
 use Rattle.clusapi_stubs.specs.declared.output.Out.TheVariants.{EnumKey, EnumValue, GetClusterName, QueryValue}

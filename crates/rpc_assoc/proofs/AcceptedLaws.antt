@@ -13,7 +13,7 @@ use Rattle.rpc_assoc.specs.declared.assoc.AssocOut.{AssocOut}
 use Rattle.rpc_assoc.specs.declared.assoc.AssocOut.TheVariants.{Call, Reply}
 use Rattle.rpc_assoc.specs.declared.terms.Terms.{Terms}
 use Rattle.rpc_assoc.specs.Answers.{fault_on, nak}
-use Rattle.rpc_assoc.specs.Association.{alter_answer, alter_by, bind_answer, call_answer, in_group, is_too_small, single_answer, step_of}
+use Rattle.rpc_assoc.specs.Association.{alter_answer, alter_by, bind_answer, call_answer, is_too_small, single_answer, step_of}
 use Rattle.rpc_assoc.specs.Laws.{AcceptsAsTold, behind, told, told_in, with_result_0}
 use Rattle.rpc_assoc.specs.State.{AcceptsBy, State, unbound}
 use Rattle.rpc_assoc.specs.Verdicts.{accepted_in, is_accepted, verdict_of}

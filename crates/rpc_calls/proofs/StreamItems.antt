@@ -1,5 +1,5 @@
 -- Each stream has its items: frames are taken off its front until no whole one is left, or one has a fault.
-use Rattle.std.proofs.Common.{◌≡◌, ℕ, zero, suc, ◌+◌, ◌<◌, ◌≤◌, false, List, [], ◌∷◌, ◌++◌, length, take, drop, ⊎_elim, inl, inr, refl, sym, ap, ◌∙◌, subst, append_assoc, length-append, length-drop, arith}
+use Rattle.std.proofs.Common.{◌≡◌, ℕ, zero, suc, ◌+◌, ◌≤◌, false, List, [], ◌∷◌, ◌++◌, length, take, drop, ⊎_elim, inl, inr, refl, sym, ap, ◌∙◌, subst, append_assoc, length-append, length-drop, arith}
 use Rattle.std.specs.Prelude.{Option, Some, None, Result, Ok, Err, nat_lt}
 use Rattle.std.specs.List.{concat}
 use Rattle.std.proofs.lemmas.Bool.{cases_lt, le-ltb}
@@ -22,7 +22,7 @@ use Rattle.rpc_calls.specs.Assembly.{Outcome, goes_on, taken}
 use Rattle.rpc_calls.specs.Frames.{IsFrame, Waits}
 use Rattle.rpc_calls.specs.Parts.{IsPart, call_id_in, refusal}
 use Rattle.rpc_calls.specs.Streams.{Items, Runs, StopsBy, put}
-use Rattle.rpc_calls.proofs.FrameRuns.{frag_length-front, long_enough}
+use Rattle.rpc_calls.proofs.FrameRuns.{frag_length-front}
 
 -- What can be read from this place on, where this call is unfinished.
 record ItemsFrom (side : Side) (place : ℕ) (before : Option Call) (stream : List ℕ) : Type 0 where
