@@ -85,7 +85,9 @@ def main():
     rules = 0
     for number, line in enumerate(text_of(TOP / "docs" / "map.md").splitlines(), 1):
         cells = [it.strip() for it in line.strip("|").split("|")]
-        if line.startswith("|") and len(cells) == 6 and cells[0] not in ("Rule", "---"):
+        if line.startswith("|") and len(cells) not in (2, 6):
+            missing.append(f"line {number}: {len(cells)} columns")
+        elif line.startswith("|") and len(cells) == 6 and cells[0] not in ("Rule", "---"):
             rules += 1
             check_line(number, cells)
     for line in missing:
