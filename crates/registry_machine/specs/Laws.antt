@@ -14,7 +14,7 @@ use Rattle.registry_defs.specs.Spelling.{registry_text}
 use Rattle.registry_states.specs.declared.fault.StateFault.TheVariants.{Bad}
 use Rattle.clus_registry.specs.Outcomes.{IsApplied}
 use Rattle.clus_registry.specs.States.{IsReadFrom, FailsOn}
-use Rattle.cluster_rules.specs.Machines.{registry_at}
+use Rattle.cluster_rules.specs.Machines.{registry_at, outcome_at}
 use Rattle.registry_machine.specs.Machine.{IsFitting, registry_machine, replicated}
 
 -- The keys obey all limits, and their encoding has no more bytes than the cap.
@@ -39,6 +39,12 @@ abbrev pub ReplayIsFold : Type 0
 ReplayIsFold =
     (cap : ℕ) (order : List Entry) (count : ℕ) → ((place : ℕ) (e : Entry) → at_place order place ≡ Some e → e.place ≡ place)
     → registry_at registry_machine cap order count ≡ record { cap = cap; keys = registry_after cap order count }
+
+-- What comes of a record behind the first ones is what its update comes to by the definitions.
+abbrev pub OutcomeIsOfFold : Type 0
+OutcomeIsOfFold =
+    (cap : ℕ) (order : List Entry) (count : ℕ) (e : Entry) → ((place : ℕ) (d : Entry) → at_place order place ≡ Some d → d.place ≡ place)
+    → outcome_at registry_machine cap order count e ≡ (update_applied cap e.place e.stamp e.update (registry_after cap order count)).outcome
 
 -- ---- the code's calls
 
