@@ -50,7 +50,9 @@ OutcomeIsOfFold =
 
 -- The registry that `new` makes is the one before the first record.
 abbrev pub BeginsAsMachine : Type 0
-BeginsAsMachine = (cap : ℕ) (registry : Contents) → registry.cap ≡ cap → keys_in registry ≡ root_alone → replicated registry ≡ registry_machine.empty cap
+BeginsAsMachine =
+    (cap : ℕ) (registry : Contents)
+    → registry.cap ≡ cap → keys_in registry ≡ root_alone → replicated registry ≡ registry_machine.empty cap
 
 -- What `apply` of a registry says of its outcome and of the registry afterwards is what the machine makes.
 abbrev pub AppliesAsMachine : Type 0
@@ -61,12 +63,18 @@ AppliesAsMachine =
 
 -- The bytes that `to_bytes` makes are those of the machine.
 abbrev pub EncodesAsMachine : Type 0
-EncodesAsMachine = (registry : Contents) (bytes : List ℕ) → bytes ≡ registry_text (keys_in registry) → bytes ≡ registry_machine.encode (replicated registry)
+EncodesAsMachine =
+    (registry : Contents) (bytes : List ℕ)
+    → bytes ≡ registry_text (keys_in registry) → bytes ≡ registry_machine.encode (replicated registry)
 
 -- The registry that is read from bytes is the one that the machine decodes.
 abbrev pub ReadsAsMachine : Type 0
-ReadsAsMachine = (cap : ℕ) (bytes : List ℕ) (registry : Contents) → IsCap cap → IsReadFrom cap bytes registry → registry_machine.decode cap bytes ≡ Some (replicated registry)
+ReadsAsMachine =
+    (cap : ℕ) (bytes : List ℕ) (registry : Contents)
+    → IsCap cap → IsReadFrom cap bytes registry → registry_machine.decode cap bytes ≡ Some (replicated registry)
 
 -- Where a field is told at fault the machine decodes nothing.
 abbrev pub FailsAsMachine : Type 0
-FailsAsMachine = (cap : ℕ) (bytes : List ℕ) (place : ℕ) → FailsOn cap bytes (Bad place) → registry_machine.decode cap bytes ≡ None
+FailsAsMachine =
+    (cap : ℕ) (bytes : List ℕ) (place : ℕ)
+    → FailsOn cap bytes (Bad place) → registry_machine.decode cap bytes ≡ None

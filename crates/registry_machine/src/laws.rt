@@ -1,7 +1,8 @@
 //! What follows from the definitions, each law as the contract of a function that does nothing.
 
 ghost use Rattle.cluster_rules.specs.Machines.{IsMachine};
-ghost use Rattle.registry_machine.specs.Laws.{AppliesAsMachine, BeginsAsMachine, EncodesAsMachine, EncodingIsBytes, FailsAsMachine, OrderKeeps, OutcomeIsOfFold, ReadsAsMachine, ReplayIsFold};
+ghost use Rattle.registry_machine.specs.Laws.{AppliesAsMachine, BeginsAsMachine, EncodesAsMachine, FailsAsMachine, ReadsAsMachine};
+ghost use Rattle.registry_machine.specs.Laws.{EncodingIsBytes, OrderKeeps, OutcomeIsOfFold, ReplayIsFold};
 ghost use Rattle.registry_machine.specs.Machine.{registry_machine};
 
 /// The registry is such a machine as the protocol replicates.
