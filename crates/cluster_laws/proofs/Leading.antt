@@ -1,32 +1,22 @@
 -- Ways that a world can go on: what a tick and a delivery make of it, where a view stands.
-use Rattle.std.proofs.Common.{◌≡◌, ◌≢◌, ◌⊎◌, inl, inr, ⊎_elim, ℕ, zero, suc, ◌+◌, ◌<◌, ◌≤◌, Bool, true, false, not, ◌&&◌, List, [], ◌∷◌, ◌++◌, length, Option, Some, None, nat_eq, nat_lt, if◌then◌else◌, slice_get, refl, sym, ap, ◌∙◌, subst, arith}
+use Rattle.std.proofs.Common.{◌≡◌, ◌≢◌, ⊎_elim, ℕ, suc, ◌<◌, ◌≤◌, Bool, true, false, ◌&&◌, List, [], ◌∷◌, ◌++◌, length, Option, Some, None, nat_eq, slice_get, refl, sym, ap, ◌∙◌, subst, arith}
 use Rattle.std.specs.List.{list_all}
-use Rattle.gum_messages.specs.declared.member.Member.{Member}
 use Rattle.gum_messages.specs.declared.view.View.{View}
 use Rattle.gum_messages.specs.Members.{inc_of}
 use Rattle.gum_messages.specs.Places.{at_place}
-use Rattle.gum_messages.proofs.Placing.{at_place-above, place_within}
 use Rattle.gum_messages.specs.Views.{IsView}
-use Rattle.gum_messages.proofs.Branches.{if_cases, option_cases}
-use Rattle.update_records.specs.Entry.{Entry}
-use Rattle.update_records.specs.declared.update.Update.{Update}
-use Rattle.gum_core.specs.declared.spreading.Spreading.{Spreading}
-use Rattle.gum_core.specs.declared.lock.Lock.{Lock}
-use Rattle.gum_core.specs.Updating.{CoreState, greatest_of, receiver}
+use Rattle.gum_messages.proofs.Branches.{if_cases}
 use Rattle.view_reconcile.specs.Joining.{ReconcileState}
 use Rattle.view_reconcile.specs.Joining as joining
 use Rattle.cluster_rules.specs.Machines.{Machine, IsMachine}
-use Rattle.gum_messages.specs.declared.body.Body.{Body}
 use Rattle.gum_messages.specs.Messages.{Sent}
 use Rattle.cluster_rules.specs.declared.effect.Effect.{Effect}
-use Rattle.cluster_rules.specs.Nodes.{NodeState, Out, becomes, members_of, number_of, packet}
+use Rattle.cluster_rules.specs.Nodes.{NodeState, Out, becomes, number_of}
 use Rattle.cluster_rules.specs.Updates.{Logged, Written, unlogged}
-use Rattle.cluster_rules.specs.Receiving.{counts, hears, receive, tick}
+use Rattle.cluster_rules.specs.Receiving.{receive, tick}
 use Rattle.cluster_rules.specs.Worlds.{Deliver, Event, Log, Tick, World, absorb, deliver, happens, logs, put, run, sent, with_log}
-use Rattle.cluster_rules.specs.Progress.{Leads, Runs, goes_on, queue_at, waiting}
-use Rattle.cluster_laws.proofs.Inv.{Has, Invariant, NodeOk, Stands}
-use Rattle.cluster_laws.proofs.Moves.{moved, put_cases, slice_get_append, slice_get_back, slice_get_front}
-use Rattle.cluster_laws.proofs.Opening.{sent_append}
+use Rattle.cluster_rules.specs.Progress.{Leads, Runs, goes_on}
+use Rattle.cluster_laws.proofs.Moves.{put_cases, slice_get_back}
 use Rattle.cluster_laws.proofs.Applying.{eq_true}
 use Rattle.cluster_laws.proofs.Orders.{run_append}
 use Rattle.cluster_laws.proofs.Sound.{Sound, sound_keeps}
@@ -125,11 +115,11 @@ module _ {M : Machine} where
         let o = h.member m lt in
         let P : Option (NodeState M) → Type 0 = λ o. (z : NodeState M) × (o ≡ Some z) × (z.join.inc ≡ inc_of v.members m) × (z.join.view ≡ v) in
         let r : P (put w.nodes n (Some y) m) = if_cases P (nat_eq m n) _ _
-            (λ q.
-            let xs : Some o.0 ≡ Some x = sym o.1.node ∙ ap w.nodes (eq_true m n q) ∙ at in
-            let xo : o.0 ≡ x = cc in
-            (y, refl, ji ∙ ap (λ (t : NodeState M). t.join.inc) (sym xo) ∙ o.1.inc, jv ∙ ap (λ (t : NodeState M). t.join.view) (sym xo) ∙ o.1.view))
-            (λ q. (o.0, o.1.node, o.1.inc, o.1.view)) in
+        (λ q.
+        let xs : Some o.0 ≡ Some x = sym o.1.node ∙ ap w.nodes (eq_true m n q) ∙ at in
+        let xo : o.0 ≡ x = cc in
+        (y, refl, ji ∙ ap (λ (t : NodeState M). t.join.inc) (sym xo) ∙ o.1.inc, jv ∙ ap (λ (t : NodeState M). t.join.view) (sym xo) ∙ o.1.view))
+        (λ q. (o.0, o.1.node, o.1.inc, o.1.view)) in
         (r.0, record { node = r.1; inc = r.2; view = r.3 });
   }
 

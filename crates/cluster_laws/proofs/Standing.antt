@@ -1,5 +1,4 @@
 -- No reachable world is stuck.
-use Rattle.gum_messages.specs.declared.view.View.{View}
 use Rattle.cluster_rules.specs.Machines.{Machine, IsMachine}
 use Rattle.std.proofs.Common.{ℕ, List}
 use Rattle.cluster_rules.specs.Worlds.{Event, World, opening, run}
