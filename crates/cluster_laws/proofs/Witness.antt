@@ -1,4 +1,4 @@
--- The premises are met: a world of two members with an update under way, from which the theorem serves it.
+-- The premises of progress are met: a world of two members with three updates queued, from which the law serves them.
 use Rattle.std.proofs.Common.{◌≡◌, ℕ, ◌<◌, Bool, true, false, List, [], ◌∷◌, Option, Some, None, nat_eq, if◌then◌else◌, refl, subst, arith}
 use Rattle.gum_messages.specs.declared.view.View.{View}
 use Rattle.gum_messages.specs.Members.{inc_of}
@@ -51,3 +51,10 @@ module _ (u : Update) (valid : IsUpdate u) where
   -- three updates are queued, one is logged: all are served
   pub three_served : Leads goes_on here (λ t. Served t two)
   three_served = all_unstuck tally tally_is_machine 4096 events tt two standing (omega arith)
+
+-- A view that has a node twice would wait for nobody and never open; it isn't declared.
+abbrev twice : View
+twice = record { number = 1; members = record { node = 1; inc = 1 } ∷ record { node = 1; inc = 1 } ∷ [] }
+
+pub twice_refused : (run (Start 1 ∷ Declare twice ∷ []) (opening tally 4096)).chain ≡ []
+twice_refused = refl
