@@ -17,7 +17,8 @@ use Rattle.gum_messages.specs.declared.body.Body.TheVariants.{Granted}
 use Rattle.gum_messages.specs.Messages.{Sent}
 use Rattle.cluster_rules.specs.Nodes.{NodeState, Replica, done_of, packet, tells}
 use Rattle.cluster_rules.specs.Updates.{has_logged}
-use Rattle.cluster_rules.specs.Worlds.{World, absorb, acked, with_log}
+use Rattle.cluster_rules.specs.Worlds.{World, acked, with_log}
+use Rattle.cluster_laws.proofs.History.{absorbed}
 use Rattle.cluster_laws.proofs.Inv.{AckOk, Asked, Invariant, LogOk, LoggedIn, MemberOk, NodeOk, NotBefore, Owner, OwnerOk, Pooled, Reached, Requested, Stands}
 use Rattle.cluster_laws.proofs.Stable.{AskedOnly, Ext, Grown, grown_refl, past, pooled}
 use Rattle.cluster_laws.proofs.Moves.{at_self, none_acked, one_told, put_cases, self_node, slice_get_append, slice_get_front}
@@ -48,7 +49,7 @@ module _ {M : Machine} where
       (sym (locker_is z.join.view.members z.join.node b.locker ∙ hz.node) ∙ ap (λ (v : View). locker_of v.members) g ∙ locker_is x.join.view.members x.join.node a.locker ∙ hx.node, g)
 
   abbrev pub appended : World M → ℕ → NodeState M → Entry → World M
-  appended w n x r = absorb n (tells (has_logged x r) r.id.node (Granted r)) (with_log (plus w.log r x.join.view.number) w)
+  appended w n x r = absorbed n (tells (has_logged x r) r.id.node (Granted r)) (with_log (plus w.log r x.join.view.number) w)
 
   -- what an Ask that is to be logged has
   pub record Fresh (w : World M) (n : ℕ) (x : NodeState M) (s : Replica M) (r : Entry) : Type 0 where

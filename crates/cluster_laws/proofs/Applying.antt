@@ -17,7 +17,8 @@ use Rattle.cluster_rules.specs.declared.effect.Effect.{Effect}
 use Rattle.cluster_rules.specs.declared.effect.Effect.TheVariants.{Send}
 use Rattle.cluster_rules.specs.Nodes.{NodeState, Out, Replica, done_of, has_state, is_head, packet}
 use Rattle.cluster_rules.specs.Updates.{applied, applies, on_apply, outcome_after, replica_after}
-use Rattle.cluster_rules.specs.Worlds.{World, absorb}
+use Rattle.cluster_rules.specs.Worlds.{World}
+use Rattle.cluster_laws.proofs.History.{absorbed}
 use Rattle.gum_core.proofs.Cases.{applying_cases}
 use Rattle.cluster_laws.proofs.Inv.{AckOk, Has, Invariant, LoggedIn, MemberOk, NodeOk, Pooled, Stands, at_head}
 use Rattle.cluster_laws.proofs.Stable.{Grown}
@@ -199,10 +200,10 @@ module _ {M : Machine} where
   pub apply_grown : (x : NodeState M) (r : Entry) (s : Replica M) → x.replica ≡ Some s → Grown x (applied r x)
   apply_grown x r s st = record { inc = refl; done = omega (arith, done_at x s st, done_next x r s st); passed = omega arith; asks = omega arith; view = omega arith; settled = λ k e. inl e; waits = λ e q z. z }
 
-  pub on_apply_keeps : (w : World M) (n : ℕ) (x : NodeState M) (from : ℕ) (r : Entry) → Invariant w → w.nodes n ≡ Some x → LoggedIn w.log r x.join.view.number → Invariant (absorb n (on_apply x from r) w)
+  pub on_apply_keeps : (w : World M) (n : ℕ) (x : NodeState M) (from : ℕ) (r : Entry) → Invariant w → w.nodes n ≡ Some x → LoggedIn w.log r x.join.view.number → Invariant (absorbed n (on_apply x from r) w)
   on_apply_keeps w n x from r j at lg =
       let h : NodeOk w n x = j.nodes n x at in
-      let P : Out M → Type 0 = λ o. Invariant (absorb n o w) in
+      let P : Out M → Type 0 = λ o. Invariant (absorbed n o w) in
       if_cases P (joining.is_ready x.join && not (joining.locks x.join)) _ _
       (λ g.
       let g1 = and_true (joining.is_ready x.join) (not (joining.locks x.join)) g in

@@ -18,7 +18,8 @@ use Rattle.cluster_rules.specs.declared.effect.Effect.{Effect}
 use Rattle.cluster_rules.specs.declared.effect.Effect.TheVariants.{Send}
 use Rattle.cluster_rules.specs.Nodes.{NodeState, Out, Replica, done_of, halts, nothing, number_of, packet, tells}
 use Rattle.cluster_rules.specs.Updates.{Answer, InDoubt, Logged, Unwritten, Written, answers, entry_for, has_logged, on_ask, unlogged}
-use Rattle.cluster_rules.specs.Worlds.{Log, World, absorb, append, leave, logs, put, stopped, with_log, written}
+use Rattle.cluster_rules.specs.Worlds.{Log, World, append, leave, logs, put, stopped, with_log, written}
+use Rattle.cluster_laws.proofs.History.{absorbed}
 use Rattle.cluster_laws.proofs.Inv.{Invariant, MsgOk, NodeOk, Pooled, Reached}
 use Rattle.cluster_laws.proofs.Moves.{moved, reached_self, stay_keeps, stay_sends, told}
 use Rattle.cluster_laws.proofs.Applying.{done_at, locker_is, lt_false, state_of}
@@ -79,7 +80,7 @@ module _ {M : Machine} where
       (record { at = t.4.at; view = t.4.view }, t.5, t.6, subst (λ (k : ℕ). Reached (moved w n x es) k (inc_of x.join.view.members k) t.2.place) (sym me) rc))
 
   abbrev pub Keeps : World M → ℕ → NodeState M → Logged M → Type 0
-  Keeps w n x d = Invariant (absorb n d.out (logs x.join.view.number d w))
+  Keeps w n x d = Invariant (absorbed n d.out (logs x.join.view.number d w))
 
   abbrev pub Dies : World M → ℕ → NodeState M → Logged M → Type 0
   Dies w n x d = Invariant (stopped n (with_log (leave (written d) x.join.view.number w.log) w))
@@ -89,7 +90,7 @@ module _ {M : Machine} where
     | InDoubt ↦ record { out = halts halt.Disk; appended = None; doubtful = Some e }
     | Unwritten ↦ unlogged (halts halt.Disk)
   ])
-  answer_keeps w n x s e Written j f = subst (λ (l : Log). Invariant (absorb n (tells (has_logged x e) e.id.node (Granted e)) (with_log l w))) (appended_log w.log e x.join.view.number (j.owner n x f.owner).sure) (append_keeps w n x s e j f)
+  answer_keeps w n x s e Written j f = subst (λ (l : Log). Invariant (absorbed n (tells (has_logged x e) e.id.node (Granted e)) (with_log l w))) (appended_log w.log e x.join.view.number (j.owner n x f.owner).sure) (append_keeps w n x s e j f)
   answer_keeps w n x s e InDoubt j f = halt_keeps (with_log (record w.log { doubtful = Some e; doubtful_view = x.join.view.number }) w) n (fail_keeps w n x s e j f)
   answer_keeps w n x s e Unwritten j f = halt_keeps w n (stop_keeps w n j)
 
@@ -114,7 +115,7 @@ module _ {M : Machine} where
       answer_keeps w n x f.0 (entry_for x from q u) answer j f.1))
       (λ op lk l held ln lq. option_cases (λ (o : Out M). Keeps w n x (unlogged o)) x.last (nothing x) (λ e. tells x from (Granted e))
       (λ none. stay_keeps w n x j at)
-      (λ e some. subst (λ (to : ℕ). Invariant (absorb n (tells x to (Granted e)) w)) ln (stay_sends w n x l.node (Granted e) j at (granted_ok w n x l e (Send (packet x l.node (Granted e)) ∷ []) j at held some))))
+      (λ e some. subst (λ (to : ℕ). Invariant (absorbed n (tells x to (Granted e)) w)) ln (stay_sends w n x l.node (Granted e) j at (granted_ok w n x l e (Send (packet x l.node (Granted e)) ∷ []) j at held some))))
 
   -- a death inside it
   pub ask_dies : (w : World M) (n : ℕ) (x : NodeState M) (from q : ℕ) (u : Update) (answer : Answer) → Invariant w → w.nodes n ≡ Some x → 0 < inc_of x.join.view.members from → MsgOk w x.join.view from n (Ask q u) → Dies w n x (on_ask x from q u w.log.held answer)

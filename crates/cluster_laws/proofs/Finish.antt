@@ -17,7 +17,8 @@ use Rattle.cluster_rules.specs.declared.effect.Effect.{Effect}
 use Rattle.cluster_rules.specs.declared.effect.Effect.TheVariants.{Acked, Send}
 use Rattle.cluster_rules.specs.Nodes.{NodeState, asks, done_of, locker_at, packet}
 use Rattle.cluster_rules.specs.Updates.{proceeds}
-use Rattle.cluster_rules.specs.Worlds.{World, absorb, acked, sent}
+use Rattle.cluster_rules.specs.Worlds.{World, acked, sent}
+use Rattle.cluster_laws.proofs.History.{absorbed}
 use Rattle.cluster_laws.proofs.Inv.{AckOk, AllReached, Has, Invariant, NodeOk, Past, Pooled, Requested, Stands, at_head, greatest_asked, waits}
 use Rattle.cluster_laws.proofs.Stable.{Ext, Grown, all_reached}
 use Rattle.cluster_laws.proofs.Moves.{PointsOk, ext_absorb, moved, one_acked, self_node, slice_get_back, told}
@@ -164,7 +165,7 @@ module _ {M : Machine} where
       ask_told w n x (popped x) es req u j at (popped_grown x f) refl refl refl rd (omega (arith, pa)) (subst (λ (q : ℕ). Requested w n x.join.inc q u) (omega (arith, rq)) ((j.nodes n x at).queued 1 u (drop_one x.core.queue 0 u (ap (λ (l : List Update). slice_get l 0) e)))) (λ r c s id i. absurd (not_asked w n x r req j at s id (omega (arith, fa))))
 
   -- with the lock released
-  pub finish_keeps : (w : World M) (n : ℕ) (x : NodeState M) (r : Entry) → Invariant w → w.nodes n ≡ Some x → Done w n x r → Invariant (absorb n (proceeds x r (updating.finished x.core r.place)) w)
+  pub finish_keeps : (w : World M) (n : ℕ) (x : NodeState M) (r : Entry) → Invariant w → w.nodes n ≡ Some x → Done w n x r → Invariant (absorbed n (proceeds x r (updating.finished x.core r.place)) w)
   finish_keeps w n x r j at d =
       let h : NodeOk w n x = j.nodes n x at in
       let next : Option ℕ = if nat_lt 1 (length x.core.queue) then Some (x.core.passed + 2) else None in

@@ -62,10 +62,10 @@ fresh_or_old l r s v pl st = ⊎_elim
 
 module _ {M : Machine} where
   -- a world with one record more in the order, and perhaps other nodes, more messages and acknowledgements
-  abbrev pub grown_world : World M → Entry → ℕ → (ℕ → Option (NodeState M)) → List Sent → List (ℕ × ℕ) → List Point → World M
+  abbrev pub grown_world : World M → Entry → ℕ → (ℕ → Option (NodeState M)) → List Sent → List (ℕ × ℕ) → List (Point M) → World M
   grown_world w r v nodes pool acks points = record w { nodes = nodes; pool = pool; acks = acks; points = points; log = plus w.log r v }
 
-  pub record Grows (w : World M) (r : Entry) (v : View) (nodes : ℕ → Option (NodeState M)) (pool : List Sent) (acks : List (ℕ × ℕ)) (points : List Point) : Type 0 where
+  pub record Grows (w : World M) (r : Entry) (v : View) (nodes : ℕ → Option (NodeState M)) (pool : List Sent) (acks : List (ℕ × ℕ)) (points : List (Point M)) : Type 0 where
     pub ext : Ext w (grown_world w r v.number nodes pool acks points)
     pub place : r.place ≡ length w.log.order + 1
     pub view : view_in w.chain v.number ≡ Some v
@@ -73,7 +73,7 @@ module _ {M : Machine} where
     pub near : (m : ℕ) (z : NodeState M) → w.nodes m ≡ Some z → waits z → Has r m z.join.inc (at_head z) → length w.log.order ≤ done_of z
     pub alone : (m : ℕ) (z : NodeState M) (s : Entry) → w.nodes m ≡ Some z → waits z → Stands w.log s → Has s m z.join.inc (at_head z) → inc_of v.members m ≢ z.join.inc
 
-  pub node_grows : (w : World M) (r : Entry) (v : View) (nodes : ℕ → Option (NodeState M)) (pool : List Sent) (acks : List (ℕ × ℕ)) (points : List Point) (m : ℕ) (z : NodeState M) → LogOk w → Grows w r v nodes pool acks points → w.nodes m ≡ Some z → NodeOk w m z → NodeOk (grown_world w r v.number nodes pool acks points) m z
+  pub node_grows : (w : World M) (r : Entry) (v : View) (nodes : ℕ → Option (NodeState M)) (pool : List Sent) (acks : List (ℕ × ℕ)) (points : List (Point M)) (m : ℕ) (z : NodeState M) → LogOk w → Grows w r v nodes pool acks points → w.nodes m ≡ Some z → NodeOk w m z → NodeOk (grown_world w r v.number nodes pool acks points) m z
   node_grows w r v nodes pool acks points m z lo gs at h =
       let w' : World M = grown_world w r v.number nodes pool acks points in
       let e : Ext w w' = gs.ext in
@@ -154,7 +154,7 @@ module _ {M : Machine} where
     pub recovered : (c : ℕ) × (w.log.count v.number ≡ Some c)
     pub low : (u c : ℕ) → w.log.count u ≡ Some c → u ≤ v.number
 
-  pub log_grows : (w : World M) (r : Entry) (v : View) (nodes : ℕ → Option (NodeState M)) (pool : List Sent) (acks : List (ℕ × ℕ)) (points : List Point) → LogOk w → Grows w r v nodes pool acks points → NewOk w r v → LogOk (grown_world w r v.number nodes pool acks points)
+  pub log_grows : (w : World M) (r : Entry) (v : View) (nodes : ℕ → Option (NodeState M)) (pool : List Sent) (acks : List (ℕ × ℕ)) (points : List (Point M)) → LogOk w → Grows w r v nodes pool acks points → NewOk w r v → LogOk (grown_world w r v.number nodes pool acks points)
   log_grows w r v nodes pool acks points h gs k =
       let w' : World M = grown_world w r v.number nodes pool acks points in
       let e : Ext w w' = gs.ext in
@@ -228,7 +228,7 @@ module _ {M : Machine} where
             (a.0, a.1, entered_ w w' (locker_of a.0.members) (inc_of a.0.members (locker_of a.0.members)) w.log.held e a.2);
       }
 
-  pub ack_grows : (w : World M) (r : Entry) (v : View) (nodes : ℕ → Option (NodeState M)) (pool : List Sent) (acks : List (ℕ × ℕ)) (points : List Point) (u k : ℕ) → Grows w r v nodes pool acks points → AckOk w u k → AckOk (grown_world w r v.number nodes pool acks points) u k
+  pub ack_grows : (w : World M) (r : Entry) (v : View) (nodes : ℕ → Option (NodeState M)) (pool : List Sent) (acks : List (ℕ × ℕ)) (points : List (Point M)) (u k : ℕ) → Grows w r v nodes pool acks points → AckOk w u k → AckOk (grown_world w r v.number nodes pool acks points) u k
   ack_grows w r v nodes pool acks points u k gs h =
       let within : length w.log.order ≤ length (grown_world w r v.number nodes pool acks points).log.order = gs.ext.log.within in
       record { view = h.view; declared = h.declared; place = omega (arith, h.place, within); later = h.later; members = all_reached w (grown_world w r v.number nodes pool acks points) h.view.members k gs.ext h.members }

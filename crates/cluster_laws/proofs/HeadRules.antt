@@ -26,14 +26,16 @@ use Rattle.cluster_rules.specs.declared.effect.Effect.{Effect}
 use Rattle.cluster_rules.specs.declared.effect.Effect.TheVariants.{Send}
 use Rattle.cluster_rules.specs.Nodes.{NodeState, Out, asks, locker_at, nothing, packet}
 use Rattle.cluster_rules.specs.Updates.{asked_for, may_submit, on_applied, on_granted, proceeds, submit, submits}
-use Rattle.cluster_rules.specs.Worlds.{World, absorb, acked, noted, put}
+use Rattle.cluster_rules.specs.Worlds.{World, acked, noted, put}
+use Rattle.cluster_laws.proofs.History.{absorbed}
 use Rattle.cluster_laws.proofs.Inv.{AckOk, AllReached, Asked, Has, Invariant, MemberOk, MsgOk, NodeOk, Owner, OwnerOk, Pooled, Reached, Requested, Stands, WasReady, at_head, greatest_asked, waits}
 use Rattle.cluster_laws.proofs.Stable.{AskedOnly, Ext, Grown, all_reached, asks_most, grown_refl, reached, was_ready}
 use Rattle.cluster_laws.proofs.Moves.{quiet_points, ext_on, move_on, with_history, at_self, ext_absorb, moved, none_acked, one_told, put_cases, self_node, slice_get_front, stay_keeps, stay_sends, told}
 use Rattle.cluster_laws.proofs.Applying.{and_true, length_some, eq_true}
 use Rattle.gum_core.proofs.Cases.{applied_cases, granted_cases, receiver_says, spread_cases}
 use Rattle.cluster_laws.proofs.Heads.{SpreadOk, append_some, asks_acks, asks_told, asked_head, empty_asks, full_asks, head_keeps, headed}
-use Rattle.cluster_laws.proofs.Finish.{Done, finish_keeps}
+use Rattle.cluster_laws.proofs.Finish.{Done}
+use Rattle.cluster_laws.proofs.Telling.{Good, finish_good, still}
 
 -- each member is the locker or stands in the spreading order
 pub cover_spread : (ms : List Member) (n : ℕ) → 0 < inc_of ms n → (j : ℕ) × (m : Member) × (slice_get ms j ≡ Some m) × (m.node ≡ n)
@@ -117,16 +119,16 @@ module _ {M : Machine} where
       }
 
   -- the record goes to the next member, or is finished
-  pub spread_keeps : (w : World M) (n : ℕ) (x : NodeState M) (r : Entry) (p : ℕ) → Invariant w → w.nodes n ≡ Some x → x.core.queue ≢ [] → Has r n x.join.inc (at_head x) → SpreadOk w n x r p → Invariant (absorb n (proceeds x r (updating.spread x.core r.place p)) w)
+  pub spread_keeps : (w : World M) (n : ℕ) (x : NodeState M) (r : Entry) (p : ℕ) → Invariant w → w.nodes n ≡ Some x → x.core.queue ≢ [] → Has r n x.join.inc (at_head x) → SpreadOk w n x r p → Good w n x (proceeds x r (updating.spread x.core r.place p))
   spread_keeps w n x r p j at f id s =
       let h : NodeOk w n x = j.nodes n x at in
-      spread_cases (λ (t : CoreState × Decision). Invariant (absorb n (proceeds x r t) w)) x.core r.place p
-      (λ none. finish_keeps w n x r j at (spread_done w n x r p j at f id s (receiver_none x.core p none)))
+      spread_cases (λ (t : CoreState × Decision). Good w n x (proceeds x r t)) x.core r.place p
+      (λ none. finish_good w n x r j at (spread_done w n x r p j at f id s (receiver_none x.core p none)))
       (λ to there.
       let sp : Spreading = record { place = r.place; at = p } in
       let y : NodeState M = headed x x.core.passed x.core.queue (Some sp) (Some r) x.settled x.outcome in
       let es : List Effect = Send (packet y to (Apply r)) ∷ [] in
-      head_keeps w n x x.core.passed x.core.queue (Some sp) (Some r) x.settled x.outcome es j at (record {
+      (head_keeps w n x x.core.passed x.core.queue (Some sp) (Some r) x.settled x.outcome es j at (record {
         more = omega arith;
         keeps_settled = λ k e. inl e;
         points = quiet_points w n y es refl;
@@ -145,35 +147,35 @@ module _ {M : Machine} where
         finished = λ q lt le. absurd (omega arith);
         messages = one_told (λ (q : Sent). Pooled (moved w n y es) q) (packet y to (Apply r)) (told w n x y es to (Apply r) h (h.ready_view (open_is_ready x.join s.0)) refl refl (record { at = s.1.at; view = s.1.view }));
         acks = none_acked (λ (a b : ℕ). AckOk (moved w n y es) a b);
-      }))
+      }), inl (still y es refl)))
 
-  pub on_granted_keeps : (w : World M) (n : ℕ) (x : NodeState M) (from : ℕ) (r : Entry) → Invariant w → w.nodes n ≡ Some x → x.join.view.number ≢ 0 → MsgOk w x.join.view from n (Granted r) → Invariant (absorb n (on_granted x r) w)
+  pub on_granted_keeps : (w : World M) (n : ℕ) (x : NodeState M) (from : ℕ) (r : Entry) → Invariant w → w.nodes n ≡ Some x → x.join.view.number ≢ 0 → MsgOk w x.join.view from n (Granted r) → Good w n x (on_granted x r)
   on_granted_keeps w n x from r j at nz ok =
       let h : NodeOk w n x = j.nodes n x at in
       let here : inc_of x.join.view.members n ≡ x.join.inc = (h.view nz).1 in
-      granted_cases (λ (t : CoreState × Decision). Invariant (absorb n (proceeds x r t) w)) x.core r.id.req r.place
-      (stay_keeps w n x j at)
+      granted_cases (λ (t : CoreState × Decision). Good w n x (proceeds x r t)) x.core r.id.req r.place
+      (stay_keeps w n x j at, inl (still x [] refl))
       (λ op full rq none. spread_keeps w n x r 0 j at (length_some x.core.queue full) (record { node = ok.1; inc = ok.2 ∙ here; req = rq }) (sym h.core_open ∙ op, ok.0, ok.3, λ i m b e. absurd (omega arith)))
       (λ op pos le.
       let jo : joining.is_open x.join ≡ true = sym h.core_open ∙ op in
       let rd : joining.is_ready x.join ≡ true = open_is_ready x.join jo in
       let t = h.finished r.id.req pos le in
       let es : List Effect = Send (packet x (locker_at x) (Release r.id.req)) ∷ [] in
-      stay_sends w n x (locker_at x) (Release r.id.req) j at (told w n x x es (locker_at x) (Release r.id.req) h nz refl refl (
+      (stay_sends w n x (locker_at x) (Release r.id.req) j at (told w n x x es (locker_at x) (Release r.id.req) h nz refl refl (
         record { started = omega (arith, h.inc, here); passed = λ z e same. self_node w n x es (λ (q : NodeState M). r.id.req ≤ q.core.passed) le z e },
         t.0,
         record { at = t.3.at },
         record { node = t.4.node; inc = t.4.inc ∙ sym here; req = t.4.req },
         all_reached w (moved w n x es) x.join.view.members t.0.place (ext_absorb w n x x es at (grown_refl x)) (open_reached w n x t.1 t.2 t.0.place j at jo rd t.5 t.6),
-      )))
+      )), inl (still x es refl)))
 
-  pub on_applied_keeps : (w : World M) (n : ℕ) (x : NodeState M) (from place : ℕ) → Invariant w → w.nodes n ≡ Some x → MsgOk w x.join.view from n (Applied place) → Invariant (absorb n (on_applied x from place) w)
+  pub on_applied_keeps : (w : World M) (n : ℕ) (x : NodeState M) (from place : ℕ) → Invariant w → w.nodes n ≡ Some x → MsgOk w x.join.view from n (Applied place) → Good w n x (on_applied x from place)
   on_applied_keeps w n x from place j at ok =
       let h : NodeOk w n x = j.nodes n x at in
-      option_cases (λ (o : Out M). Invariant (absorb n o w)) x.spreads (nothing x) (λ e. proceeds x e (updating.applied x.core from place))
-      (λ none. stay_keeps w n x j at)
-      (λ e has. applied_cases (λ (t : CoreState × Decision). Invariant (absorb n (proceeds x e t) w)) x.core from place
-      (stay_keeps w n x j at)
+      option_cases (λ (o : Out M). Good w n x o) x.spreads (nothing x) (λ e. proceeds x e (updating.applied x.core from place))
+      (λ none. (stay_keeps w n x j at, inl (still x [] refl)))
+      (λ e has. applied_cases (λ (t : CoreState × Decision). Good w n x (proceeds x e t)) x.core from place
+      (stay_keeps w n x j at, inl (still x [] refl))
       (λ s sp pl to.
       let t = h.spreading s sp in
       let q : Some t.0 ≡ Some e = sym t.1 ∙ has in
@@ -198,7 +200,7 @@ module _ {M : Machine} where
             (cases_lt i s.at),
       ) in
       let ok1 : Has e n x.join.inc (at_head x) × SpreadOk w n x e (s.at + 1) = subst (λ (a : Entry). Has a n x.join.inc (at_head x) × SpreadOk w n x a (s.at + 1)) same (t.5, ok0) in
-      subst (λ (k : ℕ). Invariant (absorb n (proceeds x e (updating.spread x.core k (s.at + 1))) w)) (sym pe) (spread_keeps w n x e (s.at + 1) j at full ok1.0 ok1.1)))
+      subst (λ (k : ℕ). Good w n x (proceeds x e (updating.spread x.core k (s.at + 1)))) (sym pe) (spread_keeps w n x e (s.at + 1) j at full ok1.0 ok1.1)))
 
   -- an update is submitted: it is the next request
   abbrev pub more_requests : World M → ℕ → NodeState M → Update → ℕ → ℕ → List Update
@@ -233,7 +235,7 @@ module _ {M : Machine} where
       (λ a. un m i lt)
 
   -- the node with one request more
-  taken_keeps : (w : World M) (n : ℕ) (x : NodeState M) (u : Update) → Invariant w → w.nodes n ≡ Some x → may_submit x ≡ true → Invariant (absorb n (submits x (updating.submitted x.core u)) (with_history w (more_requests w n x u) w.points))
+  taken_keeps : (w : World M) (n : ℕ) (x : NodeState M) (u : Update) → Invariant w → w.nodes n ≡ Some x → may_submit x ≡ true → Invariant (absorbed n (submits x (updating.submitted x.core u)) (with_history w (more_requests w n x u) w.points))
   taken_keeps w n x u j at g =
       let h : NodeOk w n x = j.nodes n x at in
       let op : x.core.is_open ≡ true = (and_true x.core.is_open (nat_lt (x.core.passed + length x.core.queue) updating.last_request) g).0 in
@@ -342,9 +344,9 @@ module _ {M : Machine} where
       no_length [] e = refl
       no_length (a ∷ as_) e = absurd (omega arith)
 
-  pub submit_keeps : (w : World M) (n : ℕ) (x : NodeState M) (u : Update) → Invariant w → w.nodes n ≡ Some x → Invariant (absorb n (submit x u) (noted n x u w))
+  pub submit_keeps : (w : World M) (n : ℕ) (x : NodeState M) (u : Update) → Invariant w → w.nodes n ≡ Some x → Invariant (absorbed n (submit x u) (noted n x u w))
   submit_keeps w n x u j at = both (may_submit x) refl
     where
-      both : (b : Bool) → may_submit x ≡ b → Invariant (absorb n (if b then submits x (updating.submitted x.core u) else nothing x) (if b then with_history w (more_requests w n x u) w.points else w))
+      both : (b : Bool) → may_submit x ≡ b → Invariant (absorbed n (if b then submits x (updating.submitted x.core u) else nothing x) (if b then with_history w (more_requests w n x u) w.points else w))
       both true g = taken_keeps w n x u j at g
       both false g = stay_keeps w n x j at

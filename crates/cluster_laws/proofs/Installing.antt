@@ -1,5 +1,5 @@
 -- The rule for a view that is installed.
-use Rattle.std.proofs.Common.{◌≡◌, ◌≢◌, ⊎_elim, ℕ, ◌+◌, ◌<◌, ◌≤◌, Bool, true, false, not, ◌&&◌, List, [], ◌∷◌, ◌++◌, length, take, Option, Some, None, nat_eq, unwrap_or, nat_lt, cond, if◌then◌else◌, refl, sym, ap, ◌∙◌, subst, arith}
+use Rattle.std.proofs.Common.{◌≡◌, ◌≢◌, ⊎_elim, ℕ, ◌+◌, ◌<◌, ◌≤◌, Bool, true, false, not, ◌&&◌, List, [], ◌∷◌, ◌++◌, length, take, Option, Some, None, nat_eq, unwrap_or, nat_lt, cond, if◌then◌else◌, refl, sym, ap, ◌∙◌, subst, arith, inl}
 use Rattle.std.proofs.lemmas.Bool.{cases_lt}
 use Rattle.gum_messages.specs.declared.member.Member.{Member}
 use Rattle.gum_messages.specs.declared.view.View.{View}
@@ -26,6 +26,7 @@ use Rattle.cluster_rules.specs.Nodes.{NodeState, Out, Replica, done_of, halts, h
 use Rattle.cluster_rules.specs.Updates.{applied, opens}
 use Rattle.cluster_rules.specs.Joins.{done_within, entered, goes_on, hears_itself, joined, last_of, recovers, shows, takes_view, with_replica}
 use Rattle.cluster_rules.specs.Worlds.{Log, Opening, Recovered, Refused, World, absorb, claimed, die_in_install, found_log, install, opening, opens_log, put, raise, stopped, with_log}
+use Rattle.cluster_laws.proofs.History.{absorbed}
 use Rattle.cluster_laws.proofs.Inv.{Entered, Invariant, NodeOk, OwnerOk, Pooled, WasReady}
 use Rattle.cluster_laws.proofs.Moves.{moved, none_told, self_node, told}
 use Rattle.cluster_laws.proofs.Applying.{and_true, done_at, eq_true, fold_next, locker_is, locker_not, lt_false, lt_true, next_replica, not_true, replica_next, state_of}
@@ -37,6 +38,8 @@ use Rattle.cluster_laws.proofs.Opening.{AllWere, each_to, moved_there, no_acks, 
 use Rattle.cluster_laws.proofs.Stopping.{halt_keeps, less_keeps, stop_keeps, without}
 use Rattle.cluster_laws.proofs.Recovering.{ClaimOk, claim_keeps, claim_world, enter_keeps, entered_is, found_keeps, taken_view}
 use Rattle.cluster_laws.proofs.Growth.{put_same}
+use Rattle.cluster_laws.proofs.Histories.{told_keeps}
+use Rattle.cluster_laws.proofs.Telling.{Good, Tells, quiet_as}
 
 -- a node that is alone is the only member
 pub alone_member : (s : ReconcileState) (m : ℕ) → joining.is_alone s ≡ true → 0 < inc_of s.view.members m → m ≡ s.node
@@ -100,13 +103,14 @@ module _ {M : Machine} where
   -- it becomes ready and offers, or, alone, opens
   pub goes_keeps : (w : World M) (n : ℕ) (x z : NodeState M) (o : Offering) (s : Replica M) (out : Option M.Outcome) (t : Stage) → Invariant w → w.nodes n ≡ Some x → Recovers w n x o → s.done ≡ o.count → s.registry ≡ registry_at M w.log.cap w.log.order s.done → Known w n x s.done out
       → joined z o.count o.last (record x.join { stage = stage.Ready }) ≡ readied x s o.last out
-      → Invariant (absorb n (goes_on (joined z o.count o.last (joining.becomes_ready (record x.join { stage = t })).0) o (joining.becomes_ready (record x.join { stage = t })).1) w)
+      → Good w n x (goes_on (joined z o.count o.last (joining.becomes_ready (record x.join { stage = t })).0) o (joining.becomes_ready (record x.join { stage = t })).1)
   goes_keeps w n x z o s out t j at k sd rg kn eq =
       let h : NodeOk w n x = j.nodes n x at in
       let rs : Readies w n x s o.last out = recovers_readies w n x o s out k sd rg kn in
       let q : NodeState M = readied x s o.last out in
       let y : NodeState M = joined z o.count o.last (record x.join { stage = stage.Ready }) in
-      becomes_ready_cases (λ (r : ReconcileState × Step). Invariant (absorb n (goes_on (joined z o.count o.last r.0) o r.1) w)) (record x.join { stage = t })
+      let same : y.core.passed ≡ x.core.passed = ap (λ (t : NodeState M). t.core.passed) eq in
+      becomes_ready_cases (λ (r : ReconcileState × Step). Good w n x (goes_on (joined z o.count o.last r.0) o r.1)) (record x.join { stage = t })
       (λ a.
       let w1 : World M = moved w n y [] in
       let j1 : Invariant w1 = ready_keeps w n x s o.last out (λ (u : NodeState M). []) j at rs y eq (λ ok. none_told (λ (p : Sent). Pooled (moved w n q []) p)) refl (λ ow. ready_owner w n x o s out [] j at k sd) in
@@ -115,14 +119,16 @@ module _ {M : Machine} where
       let me : WasReady w1 n (inc_of x.join.view.members n) x.join.view.number = subst (λ (i : ℕ). WasReady w1 n i x.join.view.number) (sym here) (was_ready_here w1 n y j1 at1 refl) in
       let were : AllWere w1 y = λ m pos. subst (λ (i : ℕ). WasReady w1 i (inc_of x.join.view.members i) x.join.view.number) (sym (alone_member x.join m a pos ∙ h.node)) me in
       let open_ : Out M = opens (joined z o.count o.last (record x.join { stage = stage.Open })) in
-      subst (λ (v : World M). Invariant v) (two_moves w n y [] open_) (opens_keeps w1 n y (Opened x.join.view.number ∷ []) j1 at1 refl refl were refl (none_told (λ (p : Sent). Pooled w1 p))))
+      let g : Good w1 n y open_ = opens_keeps w1 n y (Opened x.join.view.number ∷ []) j1 at1 refl refl were refl (none_told (λ (p : Sent). Pooled w1 p)) in
+      (subst (λ (v : World M). Invariant v) (two_moves w n y [] open_) g.0, subst (λ (k : ℕ). Tells w.log.cap w.log.order n x.join.inc k open_) same g.1))
       (λ a.
       let es : NodeState M → List Effect = λ u. to_each u (Offer o.count o.cap o.last) (spread_of (members_of u)) in
-      ready_keeps w n x s o.last out es j at rs y eq
+      (ready_keeps w n x s o.last out es j at rs y eq
       (λ ok. each_to (λ (p : Sent). Pooled (moved w n q (es q)) p) q (Offer o.count o.cap o.last) (spread_of (members_of q)) (λ to. told w n x q (es q) to (Offer o.count o.cap o.last) h k.view refl refl
       (k.counted ∙ ap (λ (c : ℕ). Some c) (sym k.count), k.cap, ap (at_place w.log.order) k.count ∙ sym k.last)))
       (no_acks q (Offer o.count o.cap o.last) (spread_of (members_of q)))
-      (λ ow. ready_owner w n x o s out (es q) j at k sd))
+      (λ ow. ready_owner w n x o s out (es q) j at k sd),
+      inl (quiet_as x.join.inc x.core.passed y (es y) (no_acks y (Offer o.count o.cap o.last) (spread_of (members_of y))) refl same)))
 
   pub within_is : (x : NodeState M) (cap k : ℕ) → done_within x cap ≡ Some k → (s : Replica M) × (x.replica ≡ Some s) × (s.done ≡ k)
   within_is x cap k e = option_cases (λ (o : Option ℕ). o ≡ Some k → (s : Replica M) × (x.replica ≡ Some s) × (s.done ≡ k)) x.replica None (λ r. if nat_eq (M.cap r.registry) cap then Some r.done else None)
@@ -132,11 +138,11 @@ module _ {M : Machine} where
   -- the locker hears its own offer
   pub hears_keeps : (w : World M) (n : ℕ) (x : NodeState M) (o : Offering) (done : Option ℕ) → Invariant w → w.nodes n ≡ Some x → Recovers w n x o
       → ((k : ℕ) → done ≡ Some k → (s : Replica M) × (x.replica ≡ Some s) × (s.done ≡ k)) → (has_state x ≡ true → done ≡ Some (done_of x))
-      → Invariant (absorb n (hears_itself x o (registry_at M w.log.cap w.log.order o.count) (joining.offered x.join o.count (place_of o.last) done)) w)
+      → Good w n x (hears_itself x o (registry_at M w.log.cap w.log.order o.count) (joining.offered x.join o.count (place_of o.last) done))
   hears_keeps w n x o done j at k kn sure_ =
       let h : NodeOk w n x = j.nodes n x at in
       let registry : M.Registry = registry_at M w.log.cap w.log.order o.count in
-      let P : ReconcileState × Step → Type 0 = λ r. Invariant (absorb n (hears_itself x o registry r) w) in
+      let P : ReconcileState × Step → Type 0 = λ r. Good w n x (hears_itself x o registry r) in
       let ct : w.log.count x.join.view.number ≡ Some o.count = k.counted ∙ ap (λ (c : ℕ). Some c) (sym k.count) in
       offered_split P x.join o.count (place_of o.last) done
       (λ z. absurd (k.view z))
@@ -145,7 +151,7 @@ module _ {M : Machine} where
       let s = kn o.count all in
       let eq : joined x o.count o.last (record x.join { stage = stage.Ready }) ≡ readied x s.0 o.last x.outcome =
       λ i. record x { join = record x.join { stage = stage.Ready }; replica = s.1 i; last = o.last; offer = None; bytes = []; settled = if shows o.last x then Some (sym s.2 i) else x.settled } in
-      let Q : ReconcileState × Step → Type 0 = λ r. Invariant (absorb n (goes_on (joined x o.count o.last r.0) o r.1) w) in
+      let Q : ReconcileState × Step → Type 0 = λ r. Good w n x (goes_on (joined x o.count o.last r.0) o r.1) in
       let g : Q (joining.becomes_ready x.join) = goes_keeps w n x x o s.0 x.outcome x.join.stage j at k s.2 (h.registry s.0 s.1) (λ a f st id le. h.outcome a f st id (omega (arith, le, done_at x s.0 s.1))) eq in
       becomes_ready_cases (λ (r : ReconcileState × Step). joining.becomes_ready x.join ≡ r → P r) x.join
       (λ a e. subst Q e g) (λ a e. subst Q e g) refl)
@@ -160,7 +166,7 @@ module _ {M : Machine} where
       λ i. record x { join = record x.join { stage = stage.Ready }; replica = replica_next x e.0 s.0 s.1 i; last = o.last; offer = None; bytes = []; settled = if shows o.last x then Some (sym dn i) else x.settled; outcome = out } in
       let rg : t.registry ≡ registry_at M w.log.cap w.log.order t.done = ap (λ (g : M.Registry). (M.apply e.0 g).0) (h.registry s.0 s.1) ∙ sym (fold_next M w.log.cap w.log.order s.0.done e.0 here) in
       let taking : ReconcileState = record x.join { stage = stage.Taking } in
-      let R : Option Entry → Type 0 = λ l. Invariant (absorb n (elim l [ None ↦ nothing x | Some a ↦ goes_on (joined (applied a x) o.count o.last (joining.taken taking true).0) o (joining.taken taking true).1 ]) w) in
+      let R : Option Entry → Type 0 = λ l. Good w n x (elim l [ None ↦ nothing x | Some a ↦ goes_on (joined (applied a x) o.count o.last (joining.taken taking true).0) o (joining.taken taking true).1 ]) in
       subst R (sym e.1) (goes_keeps w n x (applied e.0 x) o t out stage.Taking j at k dn rg (next_known w n x e.0 s.0 j at s.1 here) eq))
       (λ z r na nl.
       let far : has_state x ≡ true → done_of x + 1 < o.count = λ hs. far_from w n x o.count o.last done j at k.unready ct (sym (k.last ∙ ap (at_place w.log.order) (sym k.count))) (sure_ hs) na nl in
@@ -169,7 +175,7 @@ module _ {M : Machine} where
       let ps : (record x.join { stage = stage.Taking }, step.Pull got) ≡ joining.pulls_on x.join = λ i. (record x.join { stage = if sym k.locker i then stage.Taking else stage.Pulling got }, step.Pull got) in
       subst P ps (goes_keeps w n x (with_replica x registry o.count) o s x.outcome stage.Taking j at k refl refl (far_known w n x o.count j at k.view ct far) refl))
 
-  pub recovers_keeps : IsMachine M → (w : World M) (n : ℕ) (x : NodeState M) → Invariant w → w.nodes n ≡ Some x → Recovers w n x (record { count = length w.log.order; cap = w.log.cap; last = last_of w.log.order }) → Invariant (absorb n (recovers x w.log.cap w.log.order) w)
+  pub recovers_keeps : IsMachine M → (w : World M) (n : ℕ) (x : NodeState M) → Invariant w → w.nodes n ≡ Some x → Recovers w n x (record { count = length w.log.order; cap = w.log.cap; last = last_of w.log.order }) → Good w n x (recovers x w.log.cap w.log.order)
   recovers_keeps law w n x j at k = hears_keeps w n x (record { count = length w.log.order; cap = w.log.cap; last = last_of w.log.order }) (done_within x w.log.cap) j at k (λ d e. within_is x w.log.cap d e) (λ hs.
       let s = state_of x hs in
       let c : M.cap s.0.registry ≡ w.log.cap = ap M.cap ((j.nodes n x at).registry s.0 s.1) ∙ replay_cap law (take s.0.done w.log.order) (M.empty w.log.cap) ∙ law.begins w.log.cap in
@@ -195,7 +201,7 @@ module _ {M : Machine} where
 
   -- the log is recovered, and its locker goes on
   pub found_recovers : IsMachine M → (w : World M) (n : ℕ) (x : NodeState M) (v : View) (found : Bool) → Invariant w → w.nodes n ≡ Some x → x.join.view.number < v.number → view_in w.chain v.number ≡ Some v → inc_of v.members n ≡ x.join.inc → is_locker v.members x.join.node ≡ true → w.log.held ≤ v.number
-      → Invariant (absorb n (recovers (taken_view v x) w.log.cap (found_log found w.log).order) (with_log (claimed v.number (found_log found w.log)) w))
+      → Invariant (absorbed n (recovers (taken_view v x) w.log.cap (found_log found w.log).order) (with_log (claimed v.number (found_log found w.log)) w)) × Tells w.log.cap (found_log found w.log).order n x.join.inc x.core.passed (recovers (taken_view v x) w.log.cap (found_log found w.log).order)
   found_recovers law w n x v found j at up decl mem lk le =
       let h : NodeOk w n x = j.nodes n x at in
       let me : locker_of v.members ≡ n = locker_is v.members x.join.node lk ∙ h.node in
@@ -226,9 +232,9 @@ module _ {M : Machine} where
         last = refl;
         counted = put_same l.count v.number (Some (length l.order));
       } in
-      let whole : Invariant (absorb n (recovers y l.cap l.order) w3) = recovers_keeps law w3 n y j3 there k in
-      subst (λ (c : ℕ). Invariant (absorb n (recovers y c l.order) (with_log (claimed v.number l) w))) kept_.1
-      (subst (λ (u : World M). Invariant u) (two_moves (with_log (claimed v.number l) w) n y [] (recovers y l.cap l.order)) whole)
+      let whole : Good w3 n y (recovers y l.cap l.order) = recovers_keeps law w3 n y j3 there k in
+      subst (λ (c : ℕ). Invariant (absorbed n (recovers y c l.order) (with_log (claimed v.number l) w)) × Tells c l.order n x.join.inc x.core.passed (recovers y c l.order)) kept_.1
+      (subst (λ (u : World M). Invariant u) (two_moves (with_log (claimed v.number l) w) n y [] (recovers y l.cap l.order)) whole.0, whole.1)
     where
       same_held : (found : Bool) (l : Log) → ((found_log found l).held ≡ l.held) × ((found_log found l).cap ≡ l.cap)
       same_held found l = option_cases (λ (t : Log). (t.held ≡ l.held) × (t.cap ≡ l.cap)) l.doubtful l (λ e. if found
@@ -280,7 +286,8 @@ module _ {M : Machine} where
         | Refused raised cause ↦ absorb n (halts cause) (with_log (raise raised v.number w.log) w)
       ])
   recover_keeps law w n x v (Recovered found) j at g up decl mem lk le =
-      subst (λ (y : NodeState M). Invariant (absorb n (recovers y w.log.cap (found_log found w.log).order) (with_log (claimed v.number (found_log found w.log)) w))) (sym (entered_is x v g)) (found_recovers law w n x v found j at up decl mem lk le)
+      subst (λ (y : NodeState M). Invariant (absorb n (recovers y w.log.cap (found_log found w.log).order) (with_log (claimed v.number (found_log found w.log)) w))) (sym (entered_is x v g))
+      (told_keeps (with_log (claimed v.number (found_log found w.log)) w) n (recovers (taken_view v x) w.log.cap (found_log found w.log).order) (found_recovers law w n x v found j at up decl mem lk le).0)
   recover_keeps law w n x v (Refused raised cause) j at g up decl mem lk le =
       let me : locker_of v.members ≡ n = locker_is v.members x.join.node lk ∙ (j.nodes n x at).node in
       halt_keeps (with_log (raise raised v.number w.log) w) n (raise_keeps w n x v raised j at up decl mem me le)

@@ -271,5 +271,5 @@ module _ {M : Machine} where
     pub owner : (n : ℕ) (x : NodeState M) → Owner w n x → OwnerOk w n x
     pub pool : (k : ℕ) (p : Sent) → slice_get w.pool k ≡ Some p → Pooled w p
     pub acks : (a v k : ℕ) → slice_get w.acks a ≡ Some (v, k) → AckOk w v k
-    pub points : (a : ℕ) (p : Point) → slice_get w.points a ≡ Some p → Past w p.node p.inc p.place
-    pub steady : (a b : ℕ) (p q : Point) → slice_get w.points a ≡ Some p → slice_get w.points b ≡ Some q → a ≤ b → p.node ≡ q.node → p.inc ≡ q.inc → p.place ≤ q.place
+    pub points : (a : ℕ) (p : Point M) → slice_get w.points a ≡ Some p → Past w p.node p.inc p.place
+    pub steady : (a b : ℕ) (p q : Point M) → slice_get w.points a ≡ Some p → slice_get w.points b ≡ Some q → a ≤ b → p.node ≡ q.node → p.inc ≡ q.inc → p.place ≤ q.place

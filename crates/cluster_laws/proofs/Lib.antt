@@ -1,9 +1,12 @@
 pub mod Inv
+pub mod History
 pub mod Stable
 pub mod Moves
 pub mod Applying
 pub mod Heads
 pub mod Finish
+pub mod Points
+pub mod Telling
 pub mod HeadRules
 pub mod Locking
 pub mod Readying
@@ -11,6 +14,7 @@ pub mod Offering
 pub mod Opening
 pub mod Growth
 pub mod Appending
+pub mod Histories
 pub mod Stopping
 pub mod Asking
 pub mod Recovering
@@ -21,8 +25,10 @@ pub mod Lockers
 pub mod Events
 pub mod Fitting
 pub mod Theorem
-pub mod Points
 pub mod Orders
+pub mod Silent
+pub mod Answering
+pub mod Replies
 pub mod Guards
 pub mod Shapes
 pub mod Sound

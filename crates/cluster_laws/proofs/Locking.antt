@@ -12,7 +12,8 @@ use Rattle.gum_messages.specs.declared.body.Body.TheVariants.{Release}
 use Rattle.gum_messages.specs.Messages.{Sent}
 use Rattle.cluster_rules.specs.Nodes.{NodeState, done_of, nothing}
 use Rattle.cluster_rules.specs.Updates.{on_release}
-use Rattle.cluster_rules.specs.Worlds.{World, absorb}
+use Rattle.cluster_rules.specs.Worlds.{World}
+use Rattle.cluster_laws.proofs.History.{absorbed}
 use Rattle.cluster_laws.proofs.Inv.{AckOk, Finished, Has, Invariant, MemberOk, MsgOk, NodeOk, Owner, OwnerOk, Pooled, Stands, at_head}
 use Rattle.cluster_laws.proofs.Stable.{Grown}
 use Rattle.cluster_laws.proofs.Moves.{quiet_points, at_self, move_keeps, moved, node_in, none_acked, none_told, put_cases, stay_keeps}
@@ -48,7 +49,7 @@ module _ {M : Machine} where
             omega (arith, fin.passed b bt refl, fq));
       }
 
-  pub unlock_keeps : (w : World M) (n : ℕ) (x : NodeState M) (from q : ℕ) (l : Lock) → Invariant w → w.nodes n ≡ Some x → 0 < inc_of x.join.view.members from → MsgOk w x.join.view from n (Release q) → x.core.lock ≡ Some l → l.node ≡ from → l.req ≡ q → Invariant (absorb n (nothing (unlocked x)) w)
+  pub unlock_keeps : (w : World M) (n : ℕ) (x : NodeState M) (from q : ℕ) (l : Lock) → Invariant w → w.nodes n ≡ Some x → 0 < inc_of x.join.view.members from → MsgOk w x.join.view from n (Release q) → x.core.lock ≡ Some l → l.node ≡ from → l.req ≡ q → Invariant (absorbed n (nothing (unlocked x)) w)
   unlock_keeps w n x from q l j at pos ok lk ln lq =
       let h : NodeOk w n x = j.nodes n x at in
       let y : NodeState M = unlocked x in
@@ -114,8 +115,8 @@ module _ {M : Machine} where
         member = λ a z ne o k op i. let old : MemberOk w.log z.core.lock n x = k.members op n x at i in record { near = old.near; free = old.free; heads = old.heads };
       })
 
-  pub on_release_keeps : (w : World M) (n : ℕ) (x : NodeState M) (from q : ℕ) → Invariant w → w.nodes n ≡ Some x → 0 < inc_of x.join.view.members from → MsgOk w x.join.view from n (Release q) → Invariant (absorb n (on_release x from q) w)
+  pub on_release_keeps : (w : World M) (n : ℕ) (x : NodeState M) (from q : ℕ) → Invariant w → w.nodes n ≡ Some x → 0 < inc_of x.join.view.members from → MsgOk w x.join.view from n (Release q) → Invariant (absorbed n (on_release x from q) w)
   on_release_keeps w n x from q j at pos ok =
-      released_cases (λ (t : CoreState × Decision). Invariant (absorb n (nothing (record x { core = t.0 })) w)) x.core from q
+      released_cases (λ (t : CoreState × Decision). Invariant (absorbed n (nothing (record x { core = t.0 })) w)) x.core from q
       (stay_keeps w n x j at)
       (λ lo l lk ln lq. unlock_keeps w n x from q l j at pos ok lk ln lq)

@@ -16,7 +16,8 @@ use Rattle.gum_messages.specs.Messages.{Sent}
 use Rattle.cluster_rules.specs.declared.effect.Effect.{Effect}
 use Rattle.cluster_rules.specs.declared.effect.Effect.TheVariants.{Send}
 use Rattle.cluster_rules.specs.Nodes.{NodeState, Out, becomes, done_of, nothing, packet, tells}
-use Rattle.cluster_rules.specs.Worlds.{Point, World, absorb, acked, answered, put, sent}
+use Rattle.cluster_rules.specs.Worlds.{Point, World, acked, put, sent}
+use Rattle.cluster_laws.proofs.History.{absorbed, answered}
 use Rattle.cluster_laws.proofs.Inv.{AckOk, Invariant, LogOk, MemberOk, MsgOk, NodeOk, Owner, OwnerOk, Past, Pooled, Reached, Requested}
 use Rattle.cluster_laws.proofs.Stable.{AskedOnly, Ext, Grown, all_reached, asked_, entered_, grown_refl, longer_refl, past, pooled, reached, was_ready}
 
@@ -45,14 +46,14 @@ slice_split (x ∷ xs) ys (suc k) z e = ⊎_elim
     (λ (c : (length xs ≤ k) × (j : ℕ) × (slice_get ys j ≡ Some z)). inr (let h : length xs ≤ k = c.0 in omega arith, c.1, c.2))
     (slice_split xs ys k z e)
 
-pub answered_get : (n i : ℕ) (l : List (ℕ × ℕ)) (k : ℕ) (p : Point) → slice_get (answered n i l) k ≡ Some p → (v : ℕ) × (slice_get l k ≡ Some (v, p.place)) × (p.node ≡ n) × (p.inc ≡ i)
+pub answered_get : {M : Machine} (n i : ℕ) (l : List (ℕ × ℕ)) (k : ℕ) (p : Point M) → slice_get (answered {M = M} n i l) k ≡ Some p → (v : ℕ) × (slice_get l k ≡ Some (v, p.place)) × (p.node ≡ n) × (p.inc ≡ i)
 answered_get n i [] k p e = absurd (no k e)
   where
-    no : {p : Point} (k : ℕ) → slice_get [] k ≡ Some p → ⊥
+    no : {A : Type 0} {p : A} (k : ℕ) → slice_get [] k ≡ Some p → ⊥
     no k e = cc
-answered_get n i (a ∷ l) zero p e =
-    let q : record { node = n; inc = i; place = a.1 } ≡ p = cc in
-    (a.0, ap (λ (t : Point). Some (a.0, t.place)) q, sym (ap (λ (t : Point). t.node) q), sym (ap (λ (t : Point). t.inc) q))
+answered_get {M} n i (a ∷ l) zero p e =
+    let q : record { node = n; inc = i; place = a.1; req = 0; outcome = None } ≡ p = cc in
+    (a.0, ap (λ (t : Point M). Some (a.0, t.place)) q, sym (ap (λ (t : Point M). t.node) q), sym (ap (λ (t : Point M). t.inc) q))
 answered_get n i (a ∷ l) (suc k) p e = answered_get n i l k p e
 
 -- what is told, one by one
@@ -77,17 +78,17 @@ one_acked P a b h (suc k) v p e = absurd (cc)
 module _ {M : Machine} where
   -- the world in which one node became y and told these
   abbrev pub moved : World M → ℕ → NodeState M → List Effect → World M
-  moved w n y es = absorb n (becomes y es) w
+  moved w n y es = absorbed n (becomes y es) w
 
   pub at_self : (P : ℕ → NodeState M → Type 0) (a n : ℕ) (y b : NodeState M) → a ≡ n → Some y ≡ Some b → P n y → P a b
   at_self P a n y b e f p = let g : y ≡ b = cc in subst (λ (t : NodeState M). P a t) g (subst (λ (t : ℕ). P t y) (sym e) p)
 
   -- the world in which it also took requests
   -- the same world with another history
-  abbrev pub with_history : World M → (ℕ → ℕ → List Update) → List Point → World M
+  abbrev pub with_history : World M → (ℕ → ℕ → List Update) → List (Point M) → World M
   with_history w rq ps = record w { requests = rq; points = ps }
 
-  pub ext_on : (w : World M) (rq : ℕ → ℕ → List Update) (ps : List Point) (n : ℕ) (x y : NodeState M) (es : List Effect) → ((m i q : ℕ) (u : Update) → Requested w m i q u → at_place (rq m i) q ≡ Some u) → w.nodes n ≡ Some x → Grown x y → Ext w (moved (with_history w rq ps) n y es)
+  pub ext_on : (w : World M) (rq : ℕ → ℕ → List Update) (ps : List (Point M)) (n : ℕ) (x y : NodeState M) (es : List Effect) → ((m i q : ℕ) (u : Update) → Requested w m i q u → at_place (rq m i) q ≡ Some u) → w.nodes n ≡ Some x → Grown x y → Ext w (moved (with_history w rq ps) n y es)
   ext_on w rq ps n x y es more at g = record {
     log = longer_refl w.log;
     chain = λ v u e. e;
@@ -103,9 +104,9 @@ module _ {M : Machine} where
   ext_absorb w n x y es at g = ext_on w w.requests w.points n x y es (λ m i q u e. e) at g
 
   -- what holds of a node stays, where its world grows and has the same log
-  pub node_on : (w : World M) (rq : ℕ → ℕ → List Update) (ps : List Point) (n : ℕ) (o : Out M) (m : ℕ) (y : NodeState M) → Ext w (absorb n o (with_history w rq ps)) → AskedOnly w → length (rq m y.join.inc) ≡ length (w.requests m y.join.inc) → NodeOk w m y → NodeOk (absorb n o (with_history w rq ps)) m y
+  pub node_on : (w : World M) (rq : ℕ → ℕ → List Update) (ps : List (Point M)) (n : ℕ) (o : Out M) (m : ℕ) (y : NodeState M) → Ext w (absorbed n o (with_history w rq ps)) → AskedOnly w → length (rq m y.join.inc) ≡ length (w.requests m y.join.inc) → NodeOk w m y → NodeOk (absorbed n o (with_history w rq ps)) m y
   node_on w rq ps n o m y e a same h =
-      let w' : World M = absorb n o (with_history w rq ps) in record {
+      let w' : World M = absorbed n o (with_history w rq ps) in record {
         node = h.node;
         inc = h.inc;
         positive = h.positive;
@@ -148,12 +149,12 @@ module _ {M : Machine} where
             (f.0, f.1, f.2, f.3, f.4, slice_get_front w.acks (acked o.effects) f.1 (f.2, f.0.place) f.5, f.6);
       }
 
-  pub node_stays : (w : World M) (n : ℕ) (o : Out M) (m : ℕ) (y : NodeState M) → Ext w (absorb n o w) → AskedOnly w → NodeOk w m y → NodeOk (absorb n o w) m y
+  pub node_stays : (w : World M) (n : ℕ) (o : Out M) (m : ℕ) (y : NodeState M) → Ext w (absorbed n o w) → AskedOnly w → NodeOk w m y → NodeOk (absorbed n o w) m y
   node_stays w n o m y e a h = node_on w w.requests w.points n o m y e a refl h
 
-  pub log_on : (w : World M) (rq : ℕ → ℕ → List Update) (ps : List Point) (n : ℕ) (o : Out M) → Ext w (absorb n o (with_history w rq ps)) → ((m i : ℕ) → w.starts m < i → length (rq m i) ≡ 0) → LogOk w → LogOk (absorb n o (with_history w rq ps))
+  pub log_on : (w : World M) (rq : ℕ → ℕ → List Update) (ps : List (Point M)) (n : ℕ) (o : Out M) → Ext w (absorbed n o (with_history w rq ps)) → ((m i : ℕ) → w.starts m < i → length (rq m i) ≡ 0) → LogOk w → LogOk (absorbed n o (with_history w rq ps))
   log_on w rq ps n o e un h =
-      let w' : World M = absorb n o (with_history w rq ps) in record {
+      let w' : World M = absorbed n o (with_history w rq ps) in record {
         places = h.places;
         ids = h.ids;
         logged = h.logged;
@@ -179,11 +180,11 @@ module _ {M : Machine} where
             (a.0, a.1, entered_ w w' (locker_of a.0.members) (inc_of a.0.members (locker_of a.0.members)) w.log.held e a.2);
       }
 
-  pub log_stays : (w : World M) (n : ℕ) (o : Out M) → Ext w (absorb n o w) → LogOk w → LogOk (absorb n o w)
+  pub log_stays : (w : World M) (n : ℕ) (o : Out M) → Ext w (absorbed n o w) → LogOk w → LogOk (absorbed n o w)
   log_stays w n o e h = log_on w w.requests w.points n o e h.unasked h
 
-  pub ack_stays : (w : World M) (n : ℕ) (o : Out M) (v k : ℕ) → Ext w (absorb n o w) → AckOk w v k → AckOk (absorb n o w) v k
-  ack_stays w n o v k e h = record { view = h.view; declared = h.declared; place = h.place; later = h.later; members = all_reached w (absorb n o w) h.view.members k e h.members }
+  pub ack_stays : (w : World M) (n : ℕ) (o : Out M) (v k : ℕ) → Ext w (absorbed n o w) → AckOk w v k → AckOk (absorbed n o w) v k
+  ack_stays w n o v k e h = record { view = h.view; declared = h.declared; place = h.place; later = h.later; members = all_reached w (absorbed n o w) h.view.members k e h.members }
 
   pub node_in : (w : World M) (n : ℕ) (x y : NodeState M) (es : List Effect) → Invariant w → w.nodes n ≡ Some x → Grown x y → NodeOk w n y → NodeOk (moved w n y es) n y
   node_in w n x y es j at g h = node_stays w n (becomes y es) n y (ext_absorb w n x y es at g) (λ r s. (j.log.asked r s).1) h
@@ -206,7 +207,7 @@ module _ {M : Machine} where
       record { one = λ k l v p u q e f. absurd (no k v p e); each = λ k v p e. absurd (no k v p e) }
 
   -- what a rule owes that moves one node and leaves the log
-  pub record MoveOk (w : World M) (rq : ℕ → ℕ → List Update) (ps : List Point) (n : ℕ) (x y : NodeState M) (es : List Effect) : Type 0 where
+  pub record MoveOk (w : World M) (rq : ℕ → ℕ → List Update) (ps : List (Point M)) (n : ℕ) (x y : NodeState M) (es : List Effect) : Type 0 where
     pub grown : Grown x y
     pub node : NodeOk (moved (with_history w rq ps) n y es) n y
     pub messages : (k : ℕ) (p : Sent) → slice_get (sent es) k ≡ Some p → Pooled (moved (with_history w rq ps) n y es) p
@@ -215,7 +216,7 @@ module _ {M : Machine} where
     pub points : PointsOk w n y es
     pub member : (m : ℕ) (z : NodeState M) → m ≢ n → Owner w m z → OwnerOk w m z → joining.is_open z.join ≡ true → inc_of z.join.view.members n ≡ y.join.inc → MemberOk w.log z.core.lock n y
 
-  pub move_on : (w : World M) (rq : ℕ → ℕ → List Update) (ps : List Point) (n : ℕ) (x y : NodeState M) (es : List Effect) → ((m i q : ℕ) (u : Update) → Requested w m i q u → at_place (rq m i) q ≡ Some u) → ((m : ℕ) → m ≢ n → rq m ≡ w.requests m) → ((m i : ℕ) → w.starts m < i → length (rq m i) ≡ 0) → ((a : ℕ) (p : Point) → slice_get ps a ≡ Some p → Past w p.node p.inc p.place) → ((a b : ℕ) (p q : Point) → slice_get ps a ≡ Some p → slice_get ps b ≡ Some q → a ≤ b → p.node ≡ q.node → p.inc ≡ q.inc → p.place ≤ q.place) → Invariant w → w.nodes n ≡ Some x → MoveOk w rq ps n x y es → Invariant (moved (with_history w rq ps) n y es)
+  pub move_on : (w : World M) (rq : ℕ → ℕ → List Update) (ps : List (Point M)) (n : ℕ) (x y : NodeState M) (es : List Effect) → ((m i q : ℕ) (u : Update) → Requested w m i q u → at_place (rq m i) q ≡ Some u) → ((m : ℕ) → m ≢ n → rq m ≡ w.requests m) → ((m i : ℕ) → w.starts m < i → length (rq m i) ≡ 0) → ((a : ℕ) (p : Point M) → slice_get ps a ≡ Some p → Past w p.node p.inc p.place) → ((a b : ℕ) (p q : Point M) → slice_get ps a ≡ Some p → slice_get ps b ≡ Some q → a ≤ b → p.node ≡ q.node → p.inc ≡ q.inc → p.place ≤ q.place) → Invariant w → w.nodes n ≡ Some x → MoveOk w rq ps n x y es → Invariant (moved (with_history w rq ps) n y es)
   move_on w rq ps n x y es more others un pasts steadies j at h =
       let w' : World M = moved (with_history w rq ps) n y es in
       let e : Ext w w' = ext_on w rq ps n x y es more at h.grown in
@@ -343,10 +344,10 @@ module _ {M : Machine} where
     points = quiet_points w n x es na;
   })
 
-  pub stay_sends : (w : World M) (n : ℕ) (x : NodeState M) (to : ℕ) (b : Body) → Invariant w → w.nodes n ≡ Some x → Pooled (moved w n x (Send (packet x to b) ∷ [])) (packet x to b) → Invariant (absorb n (tells x to b) w)
+  pub stay_sends : (w : World M) (n : ℕ) (x : NodeState M) (to : ℕ) (b : Body) → Invariant w → w.nodes n ≡ Some x → Pooled (moved w n x (Send (packet x to b) ∷ [])) (packet x to b) → Invariant (absorbed n (tells x to b) w)
   stay_sends w n x to b j at p = stay_tells w n x (Send (packet x to b) ∷ []) j at refl (one_told (λ (q : Sent). Pooled (moved w n x (Send (packet x to b) ∷ [])) q) (packet x to b) p)
 
-  pub stay_keeps : (w : World M) (n : ℕ) (x : NodeState M) → Invariant w → w.nodes n ≡ Some x → Invariant (absorb n (nothing x) w)
+  pub stay_keeps : (w : World M) (n : ℕ) (x : NodeState M) → Invariant w → w.nodes n ≡ Some x → Invariant (absorbed n (nothing x) w)
   stay_keeps w n x j at = stay_tells w n x [] j at refl (none_told (λ (q : Sent). Pooled (moved w n x []) q))
 
   pub reached_self : (w : World M) (n : ℕ) (y : NodeState M) (es : List Effect) (i k : ℕ) → i ≤ w.starts n → k ≤ done_of y → Reached (moved w n y es) n i k

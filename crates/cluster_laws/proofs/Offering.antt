@@ -23,7 +23,8 @@ use Rattle.cluster_rules.specs.declared.offering.Offering.{Offering}
 use Rattle.cluster_rules.specs.Nodes.{NodeState, Out, Replica, done_of, has_state, locker_at, nothing, packet, place_of, tells}
 use Rattle.cluster_rules.specs.Updates.{applied}
 use Rattle.cluster_rules.specs.Joins.{follows, gathers, joined, known_done, on_need, on_offer, on_piece, piece, says_ready, sends_piece, shows, takes_state, with_replica}
-use Rattle.cluster_rules.specs.Worlds.{World, absorb}
+use Rattle.cluster_rules.specs.Worlds.{World}
+use Rattle.cluster_laws.proofs.History.{absorbed}
 use Rattle.cluster_laws.proofs.Inv.{AckOk, Fitting, Has, Invariant, MemberOk, MsgOk, NodeOk, Pooled, WasReady, at_head, state_bytes, waits}
 use Rattle.cluster_laws.proofs.Stable.{Grown, grown_refl}
 use Rattle.cluster_laws.proofs.Moves.{quiet_points, move_keeps, moved, node_in, none_acked, one_told, reached_self, self_node, stay_keeps, stay_sends, told}
@@ -117,7 +118,7 @@ module _ {M : Machine} where
       told w n x y es to Ready h nz vw nd (subst (λ (i : ℕ). WasReady (moved w n y es) n i x.join.view.number) (ic ∙ sym here) (subst (λ (v : View). WasReady (moved w n y es) n y.join.inc v.number) vw was))
 
   -- a member that becomes ready says so
-  pub says_keeps : (w : World M) (n : ℕ) (x : NodeState M) (s : Replica M) (last : Option Entry) (out : Option M.Outcome) → Invariant w → w.nodes n ≡ Some x → Readies w n x s last out → joining.locks x.join ≡ false → (y : NodeState M) → y ≡ readied x s last out → Invariant (absorb n (says_ready y) w)
+  pub says_keeps : (w : World M) (n : ℕ) (x : NodeState M) (s : Replica M) (last : Option Entry) (out : Option M.Outcome) → Invariant w → w.nodes n ≡ Some x → Readies w n x s last out → joining.locks x.join ≡ false → (y : NodeState M) → y ≡ readied x s last out → Invariant (absorbed n (says_ready y) w)
   says_keeps w n x s last out j at k nl y eq =
       let z : NodeState M = readied x s last out in
       ready_keeps w n x s last out (λ (t : NodeState M). Send (packet t (locker_at t) Ready) ∷ []) j at k y eq
@@ -133,7 +134,7 @@ module _ {M : Machine} where
       → joining.is_ready (record x.join { stage = t }) ≡ false
       → ((o : Offering) → of ≡ Some o → (w.log.count x.join.view.number ≡ Some o.count) × (o.cap ≡ w.log.cap) × (o.last ≡ at_place w.log.order o.count) × (joining.locks x.join ≡ false) × (has_state x ≡ true → done_of x + 1 < o.count))
       → ((got : ℕ) → t ≡ stage.Pulling got → (o : Offering) × (of ≡ Some o) × (bs ≡ take got (state_bytes w o.count)))
-      → Invariant (absorb n (tells (pulling x t of bs) (locker_at x) (Need offset)) w)
+      → Invariant (absorbed n (tells (pulling x t of bs) (locker_at x) (Need offset)) w)
   still_keeps w n x t of bs offset j at nz nr nt po pu =
       let h : NodeOk w n x = j.nodes n x at in
       let y : NodeState M = pulling x t of bs in
@@ -225,10 +226,10 @@ module _ {M : Machine} where
   known_is x k e = option_cases (λ (o : Option ℕ). o ≡ Some k → (s : Replica M) × (x.replica ≡ Some s) × (s.done ≡ k)) x.replica None (λ r. Some r.done) (λ none f. absurd (cc)) (λ r some f. (r, some, cc)) e
 
   pub follows_keeps : (w : World M) (n : ℕ) (x : NodeState M) (o : Offering) → Invariant w → w.nodes n ≡ Some x → x.join.view.number ≢ 0 → joining.is_ready x.join ≡ false → joining.locks x.join ≡ false → w.log.count x.join.view.number ≡ Some o.count → o.cap ≡ w.log.cap → at_place w.log.order o.count ≡ o.last
-      → Invariant (absorb n (follows x o (joining.offered x.join o.count (place_of o.last) (known_done x))) w)
+      → Invariant (absorbed n (follows x o (joining.offered x.join o.count (place_of o.last) (known_done x))) w)
   follows_keeps w n x o j at nz nr nl ct cp la =
       let h : NodeOk w n x = j.nodes n x at in
-      let P : ReconcileState × Step → Type 0 = λ r. Invariant (absorb n (follows x o r) w) in
+      let P : ReconcileState × Step → Type 0 = λ r. Invariant (absorbed n (follows x o r) w) in
       offered_split P x.join o.count (place_of o.last) (known_done x)
       (λ z. absurd (nz z))
       (λ z rd. absurd (locker_not (joining.is_ready x.join) rd nr))
@@ -249,7 +250,7 @@ module _ {M : Machine} where
       let y : NodeState M = joined (applied e.0 x) o.count o.last (record x.join { stage = stage.Ready }) in
       let eq : y ≡ readied x t o.last out =
       λ i. record x { join = record x.join { stage = stage.Ready }; replica = replica_next x e.0 s.0 s.1 i; last = o.last; offer = None; bytes = []; settled = if shows o.last x then Some (sym dn i) else x.settled; outcome = out } in
-      let keeps : Invariant (absorb n (says_ready y) w) = says_keeps w n x t o.last out j at (record {
+      let keeps : Invariant (absorbed n (says_ready y) w) = says_keeps w n x t o.last out j at (record {
         unready = nr;
         view = nz;
         counted = ct ∙ ap (λ (k : ℕ). Some k) (sym dn);
@@ -258,15 +259,15 @@ module _ {M : Machine} where
         known = next_known w n x e.0 s.0 j at s.1 here;
       }) nl y eq in
       let tr = taken_ready x.join stage.Taking nl in
-      let Q : Option Entry → Type 0 = λ l. Invariant (absorb n (elim l [ None ↦ nothing x | Some a ↦ says_ready (joined (applied a x) o.count o.last (joining.taken (record x.join { stage = stage.Taking }) true).0) ]) w) in
-      subst Q (sym e.1) (subst (λ (r : ReconcileState × Step). Invariant (absorb n (says_ready (joined (applied e.0 x) o.count o.last r.0)) w)) (sym tr) keeps))
+      let Q : Option Entry → Type 0 = λ l. Invariant (absorbed n (elim l [ None ↦ nothing x | Some a ↦ says_ready (joined (applied a x) o.count o.last (joining.taken (record x.join { stage = stage.Taking }) true).0) ]) w) in
+      subst Q (sym e.1) (subst (λ (r : ReconcileState × Step). Invariant (absorbed n (says_ready (joined (applied e.0 x) o.count o.last r.0)) w)) (sym tr) keeps))
       (λ z r na nlk.
       let far : has_state x ≡ true → done_of x + 1 < o.count = λ hs. far_from w n x o.count o.last (known_done x) j at nr ct la (done_known x hs) na nlk in
       let got : ℕ = unwrap_or (joining.pulled_bytes x.join) 0 in
       let ps : (record x.join { stage = stage.Pulling got }, step.Pull got) ≡ joining.pulls_on x.join = λ i. (record x.join { stage = if sym nl i then stage.Taking else stage.Pulling got }, step.Pull got) in
-      let P' : NodeState M → Type 0 = λ y. Invariant (absorb n (tells y (locker_at x) (Need got)) w) in
+      let P' : NodeState M → Type 0 = λ y. Invariant (absorbed n (tells y (locker_at x) (Need got)) w) in
       subst P ps (if_cases P' (nat_eq got 0) _ _
-      (λ b. subst (λ (k : ℕ). Invariant (absorb n (tells (pulling x (stage.Pulling k) (Some o) []) (locker_at x) (Need k)) w)) (sym (eq_true got 0 b)) (still_keeps w n x (stage.Pulling 0) (Some o) [] 0 j at nz nr refl
+      (λ b. subst (λ (k : ℕ). Invariant (absorbed n (tells (pulling x (stage.Pulling k) (Some o) []) (locker_at x) (Need k)) w)) (sym (eq_true got 0 b)) (still_keeps w n x (stage.Pulling 0) (Some o) [] 0 j at nz nr refl
       (λ a e. let q : o ≡ a = cc in subst (λ (a : Offering). (w.log.count x.join.view.number ≡ Some a.count) × (a.cap ≡ w.log.cap) × (a.last ≡ at_place w.log.order a.count) × (joining.locks x.join ≡ false) × (has_state x ≡ true → done_of x + 1 < a.count)) q (ct, cp, sym la, nl, far))
       (λ k e. let q : 0 ≡ k = cc in (o, refl, subst (λ (g : ℕ). [] ≡ take g (state_bytes w o.count)) q refl))))
       (λ b.
@@ -276,11 +277,11 @@ module _ {M : Machine} where
       (λ a e. let p = h.pull a e in (p.1, p.2, p.3, p.4, h.pulling a e))
       (λ k e. h.pulled k (pulls_ ∙ e)))))
 
-  pub on_offer_keeps : (w : World M) (n : ℕ) (x : NodeState M) (from c cap : ℕ) (last : Option Entry) → Invariant w → w.nodes n ≡ Some x → x.join.view.number ≢ 0 → MsgOk w x.join.view from n (Offer c cap last) → Invariant (absorb n (on_offer x from (record { count = c; cap = cap; last = last })) w)
+  pub on_offer_keeps : (w : World M) (n : ℕ) (x : NodeState M) (from c cap : ℕ) (last : Option Entry) → Invariant w → w.nodes n ≡ Some x → x.join.view.number ≢ 0 → MsgOk w x.join.view from n (Offer c cap last) → Invariant (absorbed n (on_offer x from (record { count = c; cap = cap; last = last })) w)
   on_offer_keeps w n x from c cap last j at nz ok =
       let h : NodeOk w n x = j.nodes n x at in
       let o : Offering = record { count = c; cap = cap; last = last } in
-      let P : Out M → Type 0 = λ a. Invariant (absorb n a w) in
+      let P : Out M → Type 0 = λ a. Invariant (absorbed n a w) in
       if_cases P (nat_eq from (locker_at x) && not (joining.locks x.join)) _ _
       (λ g.
       let nl : joining.locks x.join ≡ false = not_true (joining.locks x.join) (and_true (nat_eq from (locker_at x)) (not (joining.locks x.join)) g).1 in
@@ -290,10 +291,10 @@ module _ {M : Machine} where
       (λ g. stay_keeps w n x j at)
 
   -- The state in pieces
-  pub on_need_keeps : (w : World M) (n : ℕ) (x : NodeState M) (from offset : ℕ) → Invariant w → w.nodes n ≡ Some x → x.join.view.number ≢ 0 → (joining.locks x.join ≡ true → joining.is_ready x.join ≡ true) → Invariant (absorb n (on_need x from offset) w)
+  pub on_need_keeps : (w : World M) (n : ℕ) (x : NodeState M) (from offset : ℕ) → Invariant w → w.nodes n ≡ Some x → x.join.view.number ≢ 0 → (joining.locks x.join ≡ true → joining.is_ready x.join ≡ true) → Invariant (absorbed n (on_need x from offset) w)
   on_need_keeps w n x from offset j at nz lr =
       let h : NodeOk w n x = j.nodes n x at in
-      let P : Out M → Type 0 = λ a. Invariant (absorb n a w) in
+      let P : Out M → Type 0 = λ a. Invariant (absorbed n a w) in
       option_cases P x.replica (nothing x) (λ r. if joining.locks x.join && not (joining.is_open x.join) then sends_piece x from (M.encode r.registry) offset else nothing x)
       (λ none. stay_keeps w n x j at)
       (λ r some. if_cases P (joining.locks x.join && not (joining.is_open x.join)) _ _
@@ -314,7 +315,7 @@ module _ {M : Machine} where
       ))))
       (λ g. stay_keeps w n x j at))
 
-  pub whole_keeps : IsMachine M → (w : World M) (n : ℕ) (x : NodeState M) (o : Offering) (bs : List ℕ) → Invariant w → Fitting w → w.nodes n ≡ Some x → x.join.view.number ≢ 0 → joining.is_ready x.join ≡ false → x.offer ≡ Some o → bs ≡ state_bytes w o.count → Invariant (absorb n (takes_state x bs (record x.join { stage = stage.Taking })) w)
+  pub whole_keeps : IsMachine M → (w : World M) (n : ℕ) (x : NodeState M) (o : Offering) (bs : List ℕ) → Invariant w → Fitting w → w.nodes n ≡ Some x → x.join.view.number ≢ 0 → joining.is_ready x.join ≡ false → x.offer ≡ Some o → bs ≡ state_bytes w o.count → Invariant (absorbed n (takes_state x bs (record x.join { stage = stage.Taking })) w)
   whole_keeps law w n x o bs j fi at nz nr of eq =
       let h : NodeOk w n x = j.nodes n x at in
       let p = h.pull o of in
@@ -322,16 +323,16 @@ module _ {M : Machine} where
       let dec : M.decode o.cap bs ≡ Some g = (λ i. M.decode (p.2 i) (eq i)) ∙ law.reads_back w.log.cap (take o.count w.log.order) fi.log.is_cap (all_take M.Fits o.count w.log.order fi.log.records) in
       let s : Replica M = record { registry = g; done = o.count } in
       let y : NodeState M = joined (with_replica x g o.count) o.count o.last (record x.join { stage = stage.Ready }) in
-      let keeps : Invariant (absorb n (says_ready y) w) = says_keeps w n x s o.last x.outcome j at (record { unready = nr; view = nz; counted = p.1; reg = refl; last_at = p.3; known = far_known w n x o.count j at nz p.1 (h.pulling o of) }) p.4 y refl in
+      let keeps : Invariant (absorbed n (says_ready y) w) = says_keeps w n x s o.last x.outcome j at (record { unready = nr; view = nz; counted = p.1; reg = refl; last_at = p.3; known = far_known w n x o.count j at nz p.1 (h.pulling o of) }) p.4 y refl in
       let tr = taken_ready x.join stage.Taking p.4 in
       let taking : ReconcileState = record x.join { stage = stage.Taking } in
       let D : Option M.Registry → Out M = λ d. elim d [
         | Some registry ↦ says_ready (joined (with_replica x registry o.count) o.count o.last (joining.taken taking true).0)
         | None ↦ tells (record x { join = (joining.taken taking false).0; bytes = [] }) (locker_at x) (Need 0)
       ] in
-      let one : Invariant (absorb n (D (Some g)) w) = subst (λ (r : ReconcileState × Step). Invariant (absorb n (says_ready (joined (with_replica x g o.count) o.count o.last r.0)) w)) (sym tr) keeps in
-      let two : Invariant (absorb n (D (M.decode o.cap bs)) w) = subst (λ (d : Option M.Registry). Invariant (absorb n (D d) w)) (sym dec) one in
-      subst (λ (f : Option Offering). Invariant (absorb n (elim f [
+      let one : Invariant (absorbed n (D (Some g)) w) = subst (λ (r : ReconcileState × Step). Invariant (absorbed n (says_ready (joined (with_replica x g o.count) o.count o.last r.0)) w)) (sym tr) keeps in
+      let two : Invariant (absorbed n (D (M.decode o.cap bs)) w) = subst (λ (d : Option M.Registry). Invariant (absorbed n (D d) w)) (sym dec) one in
+      subst (λ (f : Option Offering). Invariant (absorbed n (elim f [
         | None ↦ nothing x
         | Some a ↦ elim (M.decode a.cap bs) [
           | Some registry ↦ says_ready (joined (with_replica x registry a.count) a.count a.last (joining.taken taking true).0)
@@ -339,10 +340,10 @@ module _ {M : Machine} where
         ]
       ]) w)) (sym of) two
 
-  pub on_piece_keeps : IsMachine M → (w : World M) (n : ℕ) (x : NodeState M) (from total offset : ℕ) (bytes : List ℕ) → Invariant w → Fitting w → w.nodes n ≡ Some x → x.join.view.number ≢ 0 → MsgOk w x.join.view from n (Piece total offset bytes) → Invariant (absorb n (on_piece x total offset bytes) w)
+  pub on_piece_keeps : IsMachine M → (w : World M) (n : ℕ) (x : NodeState M) (from total offset : ℕ) (bytes : List ℕ) → Invariant w → Fitting w → w.nodes n ≡ Some x → x.join.view.number ≢ 0 → MsgOk w x.join.view from n (Piece total offset bytes) → Invariant (absorbed n (on_piece x total offset bytes) w)
   on_piece_keeps law w n x from total offset bytes j fi at nz ok =
       let h : NodeOk w n x = j.nodes n x at in
-      let P : ReconcileState × Step → Type 0 = λ r. Invariant (absorb n (gathers x bytes r) w) in
+      let P : ReconcileState × Step → Type 0 = λ r. Invariant (absorbed n (gathers x bytes r) w) in
       let count_is : (o : Offering) → w.log.count x.join.view.number ≡ Some o.count → ok.0 ≡ o.count = λ o e. let q : Some ok.0 ≡ Some o.count = sym ok.1 ∙ e in cc in
       let more : (o : Offering) → w.log.count x.join.view.number ≡ Some o.count → x.bytes ≡ take offset (state_bytes w o.count) → x.bytes ++ bytes ≡ take (offset + length bytes) (state_bytes w o.count) =
       λ o e f. let b : bytes ≡ take (length bytes) (drop offset (state_bytes w o.count)) = ok.3 ∙ ap (λ (c : ℕ). take (length bytes) (drop offset (state_bytes w c))) (count_is o e) in

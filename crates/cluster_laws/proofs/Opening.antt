@@ -1,5 +1,5 @@
 -- A view opens at a node.
-use Rattle.std.proofs.Common.{◌≡◌, ◌≢◌, ◌⊎◌, inl, inr, ⊎_elim, ℕ, ◌+◌, ◌<◌, ◌≤◌, Bool, true, false, ◌&&◌, ◌||◌, List, [], ◌∷◌, ◌++◌, length, drop, Option, Some, None, nat_eq, nat_lt, if◌then◌else◌, slice_get, refl, sym, ap, ◌∙◌, subst, append_assoc, arith}
+use Rattle.std.proofs.Common.{◌≡◌, ◌≢◌, ◌⊎◌, inl, inr, ⊎_elim, ℕ, ◌+◌, ◌<◌, ◌≤◌, Bool, true, false, ◌&&◌, ◌||◌, List, [], ◌∷◌, ◌++◌, length, drop, Option, Some, None, nat_eq, nat_lt, if◌then◌else◌, slice_get, refl, sym, ap, ◌∙◌, subst, append_assoc, arith, append-nil}
 use Rattle.gum_messages.specs.declared.member.Member.{Member}
 use Rattle.gum_messages.specs.Members.{inc_of, spread_of}
 use Rattle.gum_messages.proofs.Branches.{if_cases}
@@ -22,7 +22,8 @@ use Rattle.cluster_rules.specs.declared.effect.Effect.TheVariants.{Acked, Batche
 use Rattle.cluster_rules.specs.Nodes.{NodeState, Out, after, asks, becomes, done_of, locker_at, nothing, packet, to_each}
 use Rattle.cluster_rules.specs.Updates.{begins, opens}
 use Rattle.cluster_rules.specs.Joins.{marks_ready, on_open_view, on_ready, opens_view}
-use Rattle.cluster_rules.specs.Worlds.{Point, World, absorb, acked, answered, put, sent}
+use Rattle.cluster_rules.specs.Worlds.{Point, World, acked, put, sent}
+use Rattle.cluster_laws.proofs.History.{absorbed, answered}
 use Rattle.cluster_laws.proofs.Inv.{AckOk, Has, Invariant, MemberOk, MsgOk, NodeOk, Owner, OwnerOk, Pooled, WasReady, at_head, waits}
 use Rattle.cluster_laws.proofs.Stable.{Ext, Grown, grown_refl, pooled, was_ready}
 use Rattle.cluster_laws.proofs.Moves.{quiet_points, at_self, ext_absorb, move_keeps, moved, node_in, none_acked, none_told, owner_moves, put_cases, stay_keeps, stay_sends, stay_tells, told}
@@ -33,6 +34,8 @@ use Rattle.gum_core.proofs.Cases.{opened_cases as core_opened_cases}
 use Rattle.cluster_laws.proofs.Heads.{ask_told, asks_acks, asks_told, cons_told, full_asks, head_keeps, head_requested}
 use Rattle.cluster_laws.proofs.Finish.{Done, if_some, pop_ok, popped, popped_grown}
 use Rattle.cluster_laws.proofs.HeadRules.{open_is_ready}
+use Rattle.cluster_laws.proofs.Points.{done_outcome}
+use Rattle.cluster_laws.proofs.Telling.{Good, node_is, still}
 
 -- Two moves of one node are one
 pub put_put : {A : Type 0} (f : ℕ → A) (n : ℕ) (a b : A) → put (put f n a) n b ≡ put f n b
@@ -61,9 +64,9 @@ acked_append (Reply c p bs ∷ a) b = acked_append a b
 acked_append (Closed c d ∷ a) b = acked_append a b
 acked_append (Batched q p s i ∷ a) b = acked_append a b
 
-pub answered_append : (n i : ℕ) (a b : List (ℕ × ℕ)) → answered n i (a ++ b) ≡ answered n i a ++ answered n i b
+pub answered_append : {M : Machine} (n i : ℕ) (a b : List (ℕ × ℕ)) → answered {M = M} n i (a ++ b) ≡ answered {M = M} n i a ++ answered {M = M} n i b
 answered_append n i [] b = refl
-answered_append n i (x ∷ a) b = ap (λ (l : List Point). record { node = n; inc = i; place = x.1 } ∷ l) (answered_append n i a b)
+answered_append {M} n i (x ∷ a) b = ap (λ (l : List (Point M)). record { node = n; inc = i; place = x.1; req = 0; outcome = None } ∷ l) (answered_append n i a b)
 
 or_true : (a b : Bool) → (a || b) ≡ true → (a ≡ true) ⊎ (b ≡ true)
 or_true true b e = inl refl
@@ -73,11 +76,11 @@ pub there_put : {A : Type 0} (f : ℕ → A) (n : ℕ) (v : A) → put f n v n �
 there_put f n v = grind arith
 
 module _ {M : Machine} where
-  pub two_moves : (w : World M) (n : ℕ) (y : NodeState M) (es : List Effect) (o : Out M) → absorb n o (moved w n y es) ≡ absorb n (after es o) w
+  pub two_moves : (w : World M) (n : ℕ) (y : NodeState M) (es : List Effect) (o : Out M) → absorbed n o (moved w n y es) ≡ absorbed n (after es o) w
   two_moves w n y es o =
       let p : (w.pool ++ sent es) ++ sent o.effects ≡ w.pool ++ sent (es ++ o.effects) = append_assoc w.pool (sent es) (sent o.effects) ∙ ap (λ (l : List Sent). w.pool ++ l) (sym (sent_append es o.effects)) in
       let a : (w.acks ++ acked es) ++ acked o.effects ≡ w.acks ++ acked (es ++ o.effects) = append_assoc w.acks (acked es) (acked o.effects) ∙ ap (λ (l : List (ℕ × ℕ)). w.acks ++ l) (sym (acked_append es o.effects)) in
-      let b : (w.points ++ answered n (w.starts n) (acked es)) ++ answered n (w.starts n) (acked o.effects) ≡ w.points ++ answered n (w.starts n) (acked (es ++ o.effects)) = append_assoc w.points (answered n (w.starts n) (acked es)) (answered n (w.starts n) (acked o.effects)) ∙ ap (λ (l : List Point). w.points ++ l) (sym (answered_append n (w.starts n) (acked es) (acked o.effects)) ∙ ap (answered n (w.starts n)) (sym (acked_append es o.effects))) in
+      let b : (w.points ++ answered n (w.starts n) (acked es)) ++ answered n (w.starts n) (acked o.effects) ≡ w.points ++ answered n (w.starts n) (acked (es ++ o.effects)) = append_assoc w.points (answered n (w.starts n) (acked es)) (answered n (w.starts n) (acked o.effects)) ∙ ap (λ (l : List (Point M)). w.points ++ l) (sym (answered_append n (w.starts n) (acked es) (acked o.effects)) ∙ ap (answered n (w.starts n)) (sym (acked_append es o.effects))) in
       λ i. record w { nodes = put_put w.nodes n (Some y) o.node i; pool = p i; acks = a i; points = b i }
 
   pub moved_there : (w : World M) (n : ℕ) (y : NodeState M) (es : List Effect) → (moved w n y es).nodes n ≡ Some y
@@ -183,7 +186,7 @@ module _ {M : Machine} where
       })
 
   -- an open node asks for its head
-  pub asks_keeps : (w : World M) (n : ℕ) (x : NodeState M) (next : Option ℕ) → Invariant w → w.nodes n ≡ Some x → joining.is_open x.join ≡ true → ((req : ℕ) → next ≡ Some req → req ≡ x.core.passed + 1) → Invariant (absorb n (becomes x (asks x next)) w)
+  pub asks_keeps : (w : World M) (n : ℕ) (x : NodeState M) (next : Option ℕ) → Invariant w → w.nodes n ≡ Some x → joining.is_open x.join ≡ true → ((req : ℕ) → next ≡ Some req → req ≡ x.core.passed + 1) → Invariant (absorbed n (becomes x (asks x next)) w)
   asks_keeps w n x next j at op rq =
       let h : NodeOk w n x = j.nodes n x at in
       let rd : joining.is_ready x.join ≡ true = open_is_ready x.join op in
@@ -219,7 +222,7 @@ module _ {M : Machine} where
       )
 
   -- an acknowledgement may stand before what was sent
-  pub acked_first : (w : World M) (n : ℕ) (o : Option (NodeState M)) (es as_ : List Effect) (v k : ℕ) → acked es ≡ [] → absorb n (record { node = o; effects = Acked v k ∷ (es ++ as_); outcome = None }) w ≡ absorb n (record { node = o; effects = es ++ (Acked v k ∷ as_); outcome = None }) w
+  pub acked_first : (w : World M) (n : ℕ) (o : Option (NodeState M)) (es as_ : List Effect) (v k : ℕ) → acked es ≡ [] → absorbed n (record { node = o; effects = Acked v k ∷ (es ++ as_); outcome = None }) w ≡ absorbed n (record { node = o; effects = es ++ (Acked v k ∷ as_); outcome = None }) w
   acked_first w n o es as_ v k e =
       let p : sent (es ++ as_) ≡ sent (es ++ (Acked v k ∷ as_)) = sent_append es as_ ∙ sym (sent_append es (Acked v k ∷ as_)) in
       let a : (v, k) ∷ acked (es ++ as_) ≡ acked (es ++ (Acked v k ∷ as_)) =
@@ -250,7 +253,7 @@ module _ {M : Machine} where
       (head_keeps w n x (x.core.passed + 1) (drop 1 x.core.queue) None None None None es j at (pop_ok w n x d.0 es j at d.1 refl (none_told (λ (p : Sent). Pooled (moved w n (popped x) es) p))))
 
   pub settles_keeps : (w : World M) (n : ℕ) (x : NodeState M) (es : List Effect) (k : ℕ) → Invariant w → w.nodes n ≡ Some x → joining.is_ready x.join ≡ true → joining.is_open x.join ≡ false → AllWere w x → acked es ≡ [] → ((k : ℕ) (p : Sent) → slice_get (sent es) k ≡ Some p → Pooled w p)
-      → x.core.queue ≢ [] → x.settled ≡ Some k → Invariant (absorb n (after es (begins (record x { join = record x.join { stage = stage.Open } }) (updating.finished (record x.core { is_open = true }) k))) w)
+      → x.core.queue ≢ [] → x.settled ≡ Some k → Good w n x (after es (begins (record x { join = record x.join { stage = stage.Open } }) (updating.finished (record x.core { is_open = true }) k)))
   settles_keeps w n x es k j at rd shut were na ms full set_ =
       let a1 : List Effect = Acked x.join.view.number k ∷ [] in
       let x1 : NodeState M = popped x in
@@ -263,22 +266,41 @@ module _ {M : Machine} where
       let j2 : Invariant w2 = opens_first w1 n x1 es j1 (moved_there w n x1 a1) rd shut refl were1 na (λ i p s. pooled_on w w1 p j e1 (ms i p s)) in
       let next : Option ℕ = if nat_lt 1 (length x.core.queue) then Some (x.core.passed + 2) else None in
       let o : Out M = becomes x2 (asks x2 next) in
-      let j3 : Invariant (absorb n o w2) = asks_keeps w2 n x2 next j2 (moved_there w1 n x2 es) refl (λ req e. let q : x.core.passed + 2 ≡ req = (if_some (nat_lt 1 (length x.core.queue)) (x.core.passed + 2) req e).1 in omega (arith, q)) in
-      subst (λ (v : World M). Invariant v) (two_moves w1 n x2 es o ∙ two_moves w n x1 a1 (after es o) ∙ acked_first w n (Some x2) es (asks x2 next) x.join.view.number k na) j3
+      let j3 : Invariant (absorbed n o w2) = asks_keeps w2 n x2 next j2 (moved_there w1 n x2 es) refl (λ req e. let q : x.core.passed + 2 ≡ req = (if_some (nat_lt 1 (length x.core.queue)) (x.core.passed + 2) req e).1 in omega (arith, q)) in
+      let d = settled_done w n x k j at rd were full set_ in
+      let v : ℕ = x.join.view.number in (
+        subst (λ (v : World M). Invariant v) (two_moves w1 n x2 es o ∙ two_moves w n x1 a1 (after es o) ∙ acked_first w n (Some x2) es (asks x2 next) v k na) j3,
+        inr (record {
+          view = v;
+          entry = d.0;
+          told = acked_append es (Acked v k ∷ asks x2 next) ∙ ap (λ (l : List (ℕ × ℕ)). l ++ ((v, k) ∷ acked (asks x2 next))) na ∙ ap (λ (l : List (ℕ × ℕ)). (v, k) ∷ l) (asks_acks x2 next) ∙ ap (λ (p : ℕ). (v, p) ∷ []) (sym d.2);
+          stands = d.1.stands.at;
+          id = record { node = d.1.id.node; inc = d.1.id.inc; req = d.1.id.req };
+          outcome = done_outcome w n x d.0 j at d.1;
+          left = λ y e. node_is x2 y x.join.inc (x.core.passed + 1) e refl refl;
+        }),
+      )
 
   -- it opens, and goes on
   pub opens_keeps : (w : World M) (n : ℕ) (x : NodeState M) (es : List Effect) → Invariant w → w.nodes n ≡ Some x → joining.is_ready x.join ≡ true → joining.is_open x.join ≡ false → AllWere w x → acked es ≡ [] → ((k : ℕ) (p : Sent) → slice_get (sent es) k ≡ Some p → Pooled w p)
-      → Invariant (absorb n (after es (begins (record x { join = record x.join { stage = stage.Open } }) (updating.opened x.core x.settled))) w)
+      → Good w n x (after es (begins (record x { join = record x.join { stage = stage.Open } }) (updating.opened x.core x.settled)))
   opens_keeps w n x es j at rd shut were na ms =
       let h : NodeOk w n x = j.nodes n x at in
       let y : NodeState M = opened_node x in
       let z : NodeState M = record x { join = record x.join { stage = stage.Open } } in
-      let P : CoreState × Decision → Type 0 = λ t. Invariant (absorb n (after es (begins z t)) w) in
+      let P : CoreState × Decision → Type 0 = λ t. Good w n x (after es (begins z t)) in
       let open_first : x.settled ≡ None → Invariant (moved w n y es) = λ us. opens_first w n x es j at rd shut us were na ms in
       core_opened_cases P x.core x.settled
-      (λ e. subst (λ (v : World M). Invariant v) (two_moves w n y es (nothing y)) (stay_keeps (moved w n y es) n y (open_first (h.idle e).1) (moved_there w n y es)))
-      (λ some none. subst (λ (v : World M). Invariant v) (two_moves w n y es (becomes y (asks y (Some (x.core.passed + 1)))))
-      (asks_keeps (moved w n y es) n y (Some (x.core.passed + 1)) (open_first none) (moved_there w n y es) refl (λ req e. let q : x.core.passed + 1 ≡ req = cc in sym q)))
+      (λ e. (
+        subst (λ (v : World M). Invariant v) (two_moves w n y es (nothing y)) (stay_keeps (moved w n y es) n y (open_first (h.idle e).1) (moved_there w n y es)),
+        inl (still y (es ++ []) (ap acked (append-nil es) ∙ na)),
+      ))
+      (λ some none.
+      let next : List Effect = asks y (Some (x.core.passed + 1)) in (
+        subst (λ (v : World M). Invariant v) (two_moves w n y es (becomes y next))
+            (asks_keeps (moved w n y es) n y (Some (x.core.passed + 1)) (open_first none) (moved_there w n y es) refl (λ req e. let q : x.core.passed + 1 ≡ req = cc in sym q)),
+        inl (still y (es ++ next) (acked_append es next ∙ ap (λ (l : List (ℕ × ℕ)). l ++ acked next) na ∙ asks_acks y (Some (x.core.passed + 1)))),
+      ))
       (λ some k set_. settles_keeps w n x es k j at rd shut were na ms (length_some x.core.queue some) set_)
 
   -- Ready
@@ -301,7 +323,7 @@ module _ {M : Machine} where
   abbrev pub marked_node : NodeState M → ℕ → NodeState M
   marked_node x from = record x { join = joining.marked x.join from }
 
-  pub marked_keeps : (w : World M) (n : ℕ) (x : NodeState M) (from : ℕ) → Invariant w → w.nodes n ≡ Some x → WasReady w from (inc_of x.join.view.members from) x.join.view.number → Invariant (absorb n (nothing (marked_node x from)) w)
+  pub marked_keeps : (w : World M) (n : ℕ) (x : NodeState M) (from : ℕ) → Invariant w → w.nodes n ≡ Some x → WasReady w from (inc_of x.join.view.members from) x.join.view.number → Invariant (absorbed n (nothing (marked_node x from)) w)
   marked_keeps w n x from j at was =
       let h : NodeOk w n x = j.nodes n x at in
       let y : NodeState M = marked_node x from in
@@ -374,7 +396,7 @@ module _ {M : Machine} where
       )
 
   -- the locker opens, and says so
-  pub locker_opens : (w : World M) (n : ℕ) (x : NodeState M) → Invariant w → w.nodes n ≡ Some x → joining.is_open x.join ≡ false → joining.all_ready x.join ≡ true → Invariant (absorb n (opens_view (record x { join = record x.join { stage = stage.Open } })) w)
+  pub locker_opens : (w : World M) (n : ℕ) (x : NodeState M) → Invariant w → w.nodes n ≡ Some x → joining.is_open x.join ≡ false → joining.all_ready x.join ≡ true → Good w n x (opens_view (record x { join = record x.join { stage = stage.Open } }))
   locker_opens w n x j at shut all =
       let h : NodeOk w n x = j.nodes n x at in
       let a = all_were w n x j at all in
@@ -383,30 +405,31 @@ module _ {M : Machine} where
       opens_keeps w n x es j at a.0 shut a.1 (no_acks z OpenView (spread_of x.join.view.members))
       (each_to (λ (p : Sent). Pooled w p) z OpenView (spread_of x.join.view.members) (λ to. told_here w n x to OpenView h (h.ready_view a.0) a.1))
 
-  pub on_ready_keeps : (w : World M) (n : ℕ) (x : NodeState M) (from : ℕ) → Invariant w → w.nodes n ≡ Some x → x.join.view.number ≢ 0 → MsgOk w x.join.view from n Ready → Invariant (absorb n (on_ready x from) w)
+  pub on_ready_keeps : (w : World M) (n : ℕ) (x : NodeState M) (from : ℕ) → Invariant w → w.nodes n ≡ Some x → x.join.view.number ≢ 0 → MsgOk w x.join.view from n Ready → Good w n x (on_ready x from)
   on_ready_keeps w n x from j at nz ok =
       let h : NodeOk w n x = j.nodes n x at in
-      let P : ReconcileState × Step → Type 0 = λ r. Invariant (absorb n (marks_ready x r) w) in
+      let P : ReconcileState × Step → Type 0 = λ r. Good w n x (marks_ready x r) in
       readied_cases P x.join from
-      (λ l. stay_keeps w n x j at)
-      (λ l op. stay_sends w n x from OpenView j at (told w n x x (Send (packet x from OpenView) ∷ []) from OpenView h nz refl refl (λ m pos. was_ready w (moved w n x (Send (packet x from OpenView) ∷ [])) m (inc_of x.join.view.members m) x.join.view.number (ext_absorb w n x x (Send (packet x from OpenView) ∷ []) at (grown_refl x)) (λ r s. (j.log.asked r s).1) (h.all_ready op m pos))))
+      (λ l. (stay_keeps w n x j at, inl (still x [] refl)))
+      (λ l op. (stay_sends w n x from OpenView j at (told w n x x (Send (packet x from OpenView) ∷ []) from OpenView h nz refl refl (λ m pos. was_ready w (moved w n x (Send (packet x from OpenView) ∷ [])) m (inc_of x.join.view.members m) x.join.view.number (ext_absorb w n x x (Send (packet x from OpenView) ∷ []) at (grown_refl x)) (λ r s. (j.log.asked r s).1) (h.all_ready op m pos))), inl (still x _ refl)))
       (λ l shut all.
       let y : NodeState M = marked_node x from in
       let j1 : Invariant (moved w n y []) = marked_keeps w n x from j at ok in
       let o : Out M = opens_view (record x { join = record (joining.marked x.join from) { stage = stage.Open } }) in
-      subst (λ (v : World M). Invariant v) (two_moves w n y [] o) (locker_opens (moved w n y []) n y j1 (moved_there w n y []) shut all))
-      (λ l shut not_all. marked_keeps w n x from j at ok)
+      let g : Good (moved w n y []) n y o = locker_opens (moved w n y []) n y j1 (moved_there w n y []) shut all in
+      (subst (λ (v : World M). Invariant v) (two_moves w n y [] o) g.0, g.1))
+      (λ l shut not_all. (marked_keeps w n x from j at ok, inl (still (marked_node x from) [] refl)))
 
   -- Open
-  pub on_open_view_keeps : (w : World M) (n : ℕ) (x : NodeState M) (from : ℕ) → Invariant w → w.nodes n ≡ Some x → MsgOk w x.join.view from n OpenView → Invariant (absorb n (on_open_view x from) w)
+  pub on_open_view_keeps : (w : World M) (n : ℕ) (x : NodeState M) (from : ℕ) → Invariant w → w.nodes n ≡ Some x → MsgOk w x.join.view from n OpenView → Good w n x (on_open_view x from)
   on_open_view_keeps w n x from j at ok =
-      let Q : Out M → Type 0 = λ o. Invariant (absorb n o w) in
+      let Q : Out M → Type 0 = λ o. Good w n x o in
       let P : ReconcileState × Bool → Type 0 = λ r. Q (if nat_eq from (locker_at x) && r.1 then opens (record x { join = r.0 }) else nothing x) in
       opened_cases P x.join
       (λ rd shut. if_cases Q (nat_eq from (locker_at x) && true) _ _
       (λ g. opens_keeps w n x (Opened x.join.view.number ∷ []) j at rd shut ok refl (none_told (λ (p : Sent). Pooled w p)))
-      (λ g. stay_keeps w n x j at))
-      (if_cases Q (nat_eq from (locker_at x) && false) _ _ (λ g. absurd (cc_false (nat_eq from (locker_at x)) g)) (λ g. stay_keeps w n x j at))
+      (λ g. (stay_keeps w n x j at, inl (still x [] refl))))
+      (if_cases Q (nat_eq from (locker_at x) && false) _ _ (λ g. absurd (cc_false (nat_eq from (locker_at x)) g)) (λ g. (stay_keeps w n x j at, inl (still x [] refl))))
     where
       cc_false : (b : Bool) → (b && false) ≡ true → ⊥
       cc_false true e = cc

@@ -1,4 +1,6 @@
 -- A view whose locker is open opens at each member.
+use Rattle.cluster_laws.proofs.Leading.{move_to}
+use Rattle.cluster_laws.proofs.Leading.{turned_to}
 use Rattle.std.proofs.Common.{unwrap_or}
 use Rattle.std.proofs.Common.{◌≡◌, ◌≢◌, ◌⊎◌, inl, inr, ⊎_elim, ℕ, zero, suc, ◌+◌, ◌<◌, ◌≤◌, Bool, true, false, not, ◌&&◌, List, [], ◌∷◌, ◌++◌, length, drop, Option, Some, None, nat_eq, nat_lt, if◌then◌else◌, slice_get, refl, sym, ap, ◌∙◌, subst, arith}
 use Rattle.gum_messages.specs.declared.member.Member.{Member}
@@ -230,13 +232,13 @@ module _ {M : Machine} where
         ∙ ap (λ (b : Bool). if b then opens z else nothing y) (both (nat_eq L (locker_at y)) true (eq_is L (locker_at y) (ap (λ (t : View). locker_of t.members) (sym yr.view))) refl) in
         let out = begins_out z (Opened z.join.view.number ∷ []) in
         let t : NodeState M = out.0 in
-        let u3 : World M = turned u2 u2.log m t out.1 in
-        move law u2 v (Deliver hd2.at Written) m y t out.1 (λ u. Wider v w m u) refl h2 (still_is u2 (mail v L m OpenView) y (acknowledges t out.2 out.1) hd2 y2 (heard u2 v y L m OpenView h2 ll lm y2 ∙ ap (λ (r : Out M). unlogged r) (ov ∙ out.3))) y2 (ap (λ (j : ReconcileState). j.view) out.4) (ap (λ (j : ReconcileState). j.inc) out.4)
+        let u3 : World M = turned_to u2 u2.log m t out.2 out.1 in
+        move_to law u2 v (Deliver hd2.at Written) m y t out.2 out.1 (λ u. Wider v w m u) refl h2 (still_is u2 (mail v L m OpenView) y (acknowledges t out.2 out.1) hd2 y2 (heard u2 v y L m OpenView h2 ll lm y2 ∙ ap (λ (r : Out M). unlogged r) (ov ∙ out.3))) y2 (ap (λ (j : ReconcileState). j.view) out.4) (ap (λ (j : ReconcileState). j.inc) out.4)
         (λ h3.
         let here : open_at u3 m ≡ true = ap (λ (o : Option (NodeState M)). shown (λ (a : NodeState M). joining.is_open a.join) false o) (put_self u2.nodes m (Some t)) ∙ ap joining.is_open out.4 in
         leads_now goes_on u3 (λ u. Wider v w m u) (record {
           stand = h3;
-          near = near_turned w u2 m y t out.1 n2 y2 out.5;
+          near = near_to w u2 m y t out.2 out.1 n2 y2 out.5;
           more = λ n e. if_cases (λ (o : Option (NodeState M)). shown (λ (a : NodeState M). joining.is_open a.join) false o ≡ true) (nat_eq n m) _ _
               (λ q. ap joining.is_open out.4)
               (λ q. shown_same (λ (a : NodeState M). joining.is_open a.join) false u1.nodes L x x x1 refl n ∙ shown_same (λ (a : NodeState M). joining.is_open a.join) false w.nodes m y y yat refl n ∙ e);
@@ -554,11 +556,11 @@ module _ {M : Machine} where
         let z : NodeState M = record x { join = record (joining.marked x.join m.node) { stage = stage.Open } } in
         let out = begins_out z (Opened z.join.view.number ∷ to_each z OpenView (spread_of (members_of z))) in
         let y : NodeState M = out.0 in
-        let u : World M = turned w w.log L y out.1 in
-        move law w v e L x y out.1 Q refl h (ev ∙ ap (λ (r : Out M). absorb L r w) out.3) xat (ap (λ (j : ReconcileState). j.view) out.4) (ap (λ (j : ReconcileState). j.inc) out.4) (λ h1.
+        let u : World M = turned_to w w.log L y out.2 out.1 in
+        move_to law w v e L x y out.2 out.1 Q refl h (ev ∙ ap (λ (r : Out M). absorb L r w) out.3) xat (ap (λ (j : ReconcileState). j.view) out.4) (ap (λ (j : ReconcileState). j.inc) out.4) (λ h1.
         leads_now goes_on u Q (record {
           stand = h1;
-          near = near_turned w0 w L x y out.1 t.near xat out.5;
+          near = near_to w0 w L x y out.2 out.1 t.near xat out.5;
           goal = inl (ap (λ (o : Option (NodeState M)). shown (λ (a : NodeState M). joining.is_open a.join) false o) (put_self w.nodes L (Some y)) ∙ ap joining.is_open out.4);
         })))
         (λ l op all ev.

@@ -16,6 +16,7 @@ use Rattle.cluster_rules.specs.Joins.{entered, recovers, takes_view}
 use Rattle.cluster_rules.specs.Receiving.{checkpoint, clock, receive, tick}
 use Rattle.cluster_rules.specs.Worlds.{Checkpoint, Clock, Declare, Deliver, Die, DieInDeliver, DieInInstall, Event, Install, Log, Opening, Read, Recovered, Refused, Start, Submit, Tick, World, absorb, append, claimed, deliver, die_in_deliver, die_in_install, found_log, happens, install, leave, logs, may_declare, noted, opening, opens_log, put, raise, reads, run, stopped, with_log, written}
 use Rattle.std.proofs.lemmas.List.{append-nil, take-append-le}
+use Rattle.cluster_rules.specs.Promises.{Recovers}
 use Rattle.cluster_laws.proofs.Growth.{length_snoc}
 use Rattle.cluster_laws.proofs.Events.{at_keeps}
 
@@ -135,3 +136,10 @@ module _ {M : Machine} where
   all_grow w es more =
       let g : (rest : List Entry) × ((run more (run es w)).log.order ≡ (run es w).log.order ++ rest) = order_grows more (run es w) in
       (g.0, ap (λ (v : World M). v.log.order) (run_append es more w) ∙ g.1)
+
+  -- what a recovery finds
+  pub recovers_order : (w : World M) (found : Bool) → Recovers w found
+  recovers_order w found = ⊎_elim
+      (λ (a : (found_log found w.log).order ≡ w.log.order). record { rest = []; begins = a ∙ sym (append-nil w.log.order); few = omega arith })
+      (λ (a : (r : Entry) × ((found_log found w.log).order ≡ w.log.order ++ r ∷ [])). record { rest = a.0 ∷ []; begins = a.1; few = omega arith })
+      (found_grew w.log found).order

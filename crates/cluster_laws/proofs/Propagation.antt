@@ -1,4 +1,7 @@
 -- The lock is freed: what was granted spreads to each member, and is released.
+use Rattle.cluster_rules.specs.Nodes.{acknowledges}
+use Rattle.cluster_laws.proofs.Leading.{go_to}
+use Rattle.cluster_laws.proofs.Leading.{turned_to}
 use Rattle.std.proofs.Common.{◌≡◌, ℕ, zero, suc, ◌+◌, ◌<◌, ◌≤◌, Bool, true, false, not, ◌&&◌, List, [], ◌∷◌, ◌++◌, length, drop, Option, Some, None, nat_eq, nat_lt, if◌then◌else◌, slice_get, refl, sym, ap, ◌∙◌, subst, arith}
 use Rattle.gum_messages.specs.declared.member.Member.{Member}
 use Rattle.gum_messages.specs.declared.view.View.{View}
@@ -154,8 +157,11 @@ module _ {M : Machine} where
   heard w v x m n b h lm ln xat = ap (λ (c : Bool). if c then hears x m b w.log.held Written else unlogged (nothing x)) (counts_true v x m n b (member_runs w v n x h ln xat).view lm)
 
   -- what was sent by a node that became y
+  pub sends_to : (w : World M) (v : View) (l : Log) (n : ℕ) (y : NodeState M) (out : Option M.Outcome) (es : List Effect) (m to k a : ℕ) (b : Body) → y.join.view ≡ v → y.join.node ≡ m → to ≡ k → slice_get (sent es) a ≡ Some (packet y to b) → Held (turned_to w l n y out es) (mail v m k b)
+  sends_to w v l n y out es m to k a b yv yn tk e = subst (λ (p : Sent). Held (turned_to w l n y out es) p) (mailed v y m to k b yv yn tk) (sent_held (record w { log = l }) n (acknowledges y out es) (packet y to b) a e)
+
   pub sends : (w : World M) (v : View) (l : Log) (n : ℕ) (y : NodeState M) (es : List Effect) (m to k a : ℕ) (b : Body) → y.join.view ≡ v → y.join.node ≡ m → to ≡ k → slice_get (sent es) a ≡ Some (packet y to b) → Held (turned w l n y es) (mail v m k b)
-  sends w v l n y es m to k a b yv yn tk e = subst (λ (p : Sent). Held (turned w l n y es) p) (mailed v y m to k b yv yn tk) (sent_held (record w { log = l }) n (becomes y es) (packet y to b) a e)
+  sends w v l n y es m to k a b yv yn tk e = sends_to w v l n y None es m to k a b yv yn tk e
 
   -- Worlds that went on from another one
   pub record Near (w u : World M) : Type 0 where
@@ -166,12 +172,15 @@ module _ {M : Machine} where
   pub near_self : (w : World M) → Near w w
   near_self w = record { log = refl; requests = refl; fewer = λ n. omega arith }
 
-  pub near_turned : (w0 w : World M) (n : ℕ) (x y : NodeState M) (es : List Effect) → Near w0 w → w.nodes n ≡ Some x → length y.core.queue ≤ length x.core.queue → Near w0 (turned w w.log n y es)
-  near_turned w0 w n x y es h at le = record {
+  pub near_to : (w0 w : World M) (n : ℕ) (x y : NodeState M) (out : Option M.Outcome) (es : List Effect) → Near w0 w → w.nodes n ≡ Some x → length y.core.queue ≤ length x.core.queue → Near w0 (turned_to w w.log n y out es)
+  near_to w0 w n x y out es h at le = record {
     log = h.log;
     requests = h.requests;
-    fewer = λ m. let a : queue_at w m ≤ queue_at w0 m = h.fewer m in let b : queue_at (turned w w.log n y es) m ≤ queue_at w m = queue_less w.nodes n x y at le m in omega (arith, a, b);
+    fewer = λ m. let a : queue_at w m ≤ queue_at w0 m = h.fewer m in let b : queue_at (turned_to w w.log n y out es) m ≤ queue_at w m = queue_less w.nodes n x y at le m in omega (arith, a, b);
   }
+
+  pub near_turned : (w0 w : World M) (n : ℕ) (x y : NodeState M) (es : List Effect) → Near w0 w → w.nodes n ≡ Some x → length y.core.queue ≤ length x.core.queue → Near w0 (turned w w.log n y es)
+  near_turned w0 w n x y es h at le = near_to w0 w n x y None es h at le
 
   abbrev pub lock_at : World M → ℕ → Option Lock
   lock_at w n = shown (λ (x : NodeState M). x.core.lock) None (w.nodes n)
@@ -233,14 +242,14 @@ module _ {M : Machine} where
       let next : Option ℕ = if nat_lt 1 (length y.core.queue) then Some (y.core.passed + 2) else None in
       let es : List Effect = Acked (number_of y) r.place ∷ Send (packet z (locker_at y) (Release (y.core.passed + 1))) ∷ asks z next in
       let less : length z.core.queue + 1 ≤ length y.core.queue = drop_less y.core.queue some in
-      go law w v e w.log m y z es (λ u. Freed v w0 m 1 u) g h ev yat refl refl
+      go_to law w v e w.log m y z y.outcome es (λ u. Freed v w0 m 1 u) g h ev yat refl refl
       (λ live.
-      let u : World M = turned w w.log m z es in
-      let hd : Held u (mail v m L (Release (y.core.passed + 1))) = sends w v w.log m z es m (locker_at y) L 0 (Release (y.core.passed + 1)) rn.view nk.node (ap (λ (t : View). locker_of t.members) rn.view) refl in
+      let u : World M = turned_to w w.log m z y.outcome es in
+      let hd : Held u (mail v m L (Release (y.core.passed + 1))) = sends_to w v w.log m z y.outcome es m (locker_at y) L 0 (Release (y.core.passed + 1)) rn.view nk.node (ap (λ (t : View). locker_of t.members) rn.view) refl in
       let here : queue_at u m ≡ length z.core.queue = ap (λ (o : Option (NodeState M)). shown (λ (t : NodeState M). length t.core.queue) 0 o) (put_self w.nodes m (Some z)) in
       let was : queue_at w m ≡ length y.core.queue = shown_at (λ (t : NodeState M). length t.core.queue) 0 w m y yat in
       let few : queue_at w m ≤ queue_at w0 m = nr.fewer m in
-      release_step law v w0 u m (y.core.passed + 1) 1 l live (near_turned w0 w m y z es nr yat (omega (arith, less))) hd lm ll (shown_same (λ (t : NodeState M). t.core.lock) None w.nodes m y z yat refl L ∙ lk) ln lr (omega (arith, less, here, was, few))))
+      release_step law v w0 u m (y.core.passed + 1) 1 l live (near_to w0 w m y z y.outcome es nr yat (omega (arith, less))) hd lm ll (shown_same (λ (t : NodeState M). t.core.lock) None w.nodes m y z yat refl L ∙ lk) ln lr (omega (arith, less, here, was, few))))
       (λ to rc ev.
       let z : NodeState M = spreading_at y r at in
       go law w v e w.log m y z (Send (packet z to (Apply r)) ∷ []) (λ u. Freed v w0 m 1 u) g h ev yat refl refl (λ live. again to rc live))

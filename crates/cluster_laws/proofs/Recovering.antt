@@ -15,7 +15,8 @@ use Rattle.cluster_rules.specs.Machines.{Machine}
 use Rattle.gum_messages.specs.Messages.{Sent}
 use Rattle.cluster_rules.specs.Nodes.{NodeState, done_of, nothing}
 use Rattle.cluster_rules.specs.Joins.{entered, takes_view}
-use Rattle.cluster_rules.specs.Worlds.{Log, World, absorb, claimed, found_log, put, with_log}
+use Rattle.cluster_rules.specs.Worlds.{Log, World, claimed, found_log, put, with_log}
+use Rattle.cluster_laws.proofs.History.{absorbed}
 use Rattle.cluster_laws.proofs.Inv.{AckOk, Entered, Invariant, LogOk, MemberOk, NodeOk, Pooled}
 use Rattle.cluster_laws.proofs.Stable.{AskedOnly, Ext, Grown, all_reached, asked_, entered_, grown_refl, past, pooled, reached, was_ready}
 use Rattle.cluster_laws.proofs.Moves.{quiet_points, move_keeps, moved, node_in, none_acked, none_told, put_cases}
@@ -36,7 +37,7 @@ module _ {M : Machine} where
       λ i. if g i then (record x.join { view = v; stage = stage.Waiting; ready = replicate (length v.members) false }, true) else (x.join, false) in
       λ i. record x { core = updating.entered x.core v; join = (e i).0; offer = None; bytes = []; spreads = None }
 
-  pub enter_keeps : (w : World M) (n : ℕ) (x : NodeState M) (v : View) → Invariant w → w.nodes n ≡ Some x → x.join.view.number < v.number → view_in w.chain v.number ≡ Some v → inc_of v.members n ≡ x.join.inc → Invariant (absorb n (nothing (taken_view v x)) w)
+  pub enter_keeps : (w : World M) (n : ℕ) (x : NodeState M) (v : View) → Invariant w → w.nodes n ≡ Some x → x.join.view.number < v.number → view_in w.chain v.number ≡ Some v → inc_of v.members n ≡ x.join.inc → Invariant (absorbed n (nothing (taken_view v x)) w)
   enter_keeps w n x v j at up decl mem =
       let h : NodeOk w n x = j.nodes n x at in
       let y : NodeState M = taken_view v x in

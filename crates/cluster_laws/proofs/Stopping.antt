@@ -9,7 +9,8 @@ use Rattle.view_reconcile.specs.Chains.{view_in}
 use Rattle.cluster_rules.specs.declared.effect.HaltCause.TheVariants as halt
 use Rattle.cluster_rules.specs.Machines.{Machine}
 use Rattle.cluster_rules.specs.Nodes.{NodeState, Replica, done_of, halts}
-use Rattle.cluster_rules.specs.Worlds.{World, absorb, put, stopped, with_log}
+use Rattle.cluster_rules.specs.Worlds.{World, put, stopped, with_log}
+use Rattle.cluster_laws.proofs.History.{absorbed}
 use Rattle.cluster_laws.proofs.Inv.{Asked, Entered, Has, Invariant, LogOk, NodeOk, NotBefore, Owner, OwnerOk, Requested, Stands, at_head, waits}
 use Rattle.cluster_laws.proofs.Stable.{AskedOnly, Ext, all_reached, asked_, entered_, grown_refl, past, pooled, reached, was_ready}
 use Rattle.cluster_laws.proofs.Moves.{put_cases}
@@ -169,10 +170,10 @@ module _ {M : Machine} where
   })
 
   -- a node that halts tells nothing that is sent
-  pub halt_same : (w : World M) (n : ℕ) → absorb n (halts halt.Disk) w ≡ stopped n w
+  pub halt_same : (w : World M) (n : ℕ) → absorbed n (halts halt.Disk) w ≡ stopped n w
   halt_same w n = λ i. record w { nodes = put w.nodes n None; pool = append-nil w.pool i; acks = append-nil w.acks i; points = append-nil w.points i }
 
-  pub halt_keeps : (w : World M) (n : ℕ) → Invariant (stopped n w) → Invariant (absorb n (halts halt.Disk) w)
+  pub halt_keeps : (w : World M) (n : ℕ) → Invariant (stopped n w) → Invariant (absorbed n (halts halt.Disk) w)
   halt_keeps w n j = subst (λ (v : World M). Invariant v) (sym (halt_same w n)) j
 
   -- a failed append, or a death inside one: the locker stops, and its record may be in the log

@@ -32,6 +32,7 @@ use Rattle.cluster_laws.proofs.Stopping.{stop_keeps}
 use Rattle.cluster_laws.proofs.Installing.{die_in_install_keeps, install_keeps}
 use Rattle.cluster_laws.proofs.Starting.{declare_keeps, start_keeps, started_world}
 use Rattle.cluster_laws.proofs.Ticking.{checkpoint_keeps, clock_keeps, read_keeps, tick_keeps}
+use Rattle.cluster_laws.proofs.Histories.{told_keeps}
 use Rattle.cluster_laws.proofs.Events.{at_get, at_keeps, counted_ok}
 use Rattle.cluster_laws.proofs.Fitting.{happens_fits, opening_fits}
 use Rattle.cluster_laws.proofs.Lockers.{Lockers, checkpoint_stays, install_lockers, lockers_absorb, lockers_stay, receive_stays, stays_same, submit_stays}
@@ -40,15 +41,15 @@ module _ {M : Machine} where
   -- A message comes
   hears_keeps : IsMachine M → (w : World M) (n : ℕ) (x : NodeState M) (from : ℕ) (b : Body) (answer : Answer) → Invariant w → Fitting w → w.nodes n ≡ Some x → 0 < inc_of x.join.view.members from → x.join.view.number ≢ 0 → (joining.locks x.join ≡ true → joining.is_ready x.join ≡ true) → MsgOk w x.join.view from n b → Keeps w n x (receiving.hears x from b w.log.held answer)
   hears_keeps law w n x from (Ask q u) answer j fi at pos nz lr ok = on_ask_keeps w n x from q u answer j at pos ok
-  hears_keeps law w n x from (Granted r) answer j fi at pos nz lr ok = on_granted_keeps w n x from r j at nz ok
+  hears_keeps law w n x from (Granted r) answer j fi at pos nz lr ok = (on_granted_keeps w n x from r j at nz ok).0
   hears_keeps law w n x from (Apply r) answer j fi at pos nz lr ok = on_apply_keeps w n x from r j at ok
-  hears_keeps law w n x from (Applied k) answer j fi at pos nz lr ok = on_applied_keeps w n x from k j at ok
+  hears_keeps law w n x from (Applied k) answer j fi at pos nz lr ok = (on_applied_keeps w n x from k j at ok).0
   hears_keeps law w n x from (Release q) answer j fi at pos nz lr ok = on_release_keeps w n x from q j at pos ok
   hears_keeps law w n x from (Offer c cap last) answer j fi at pos nz lr ok = on_offer_keeps w n x from c cap last j at nz ok
   hears_keeps law w n x from (Need offset) answer j fi at pos nz lr ok = on_need_keeps w n x from offset j at nz lr
   hears_keeps law w n x from (Piece total offset bytes) answer j fi at pos nz lr ok = on_piece_keeps law w n x from total offset bytes j fi at nz ok
-  hears_keeps law w n x from Ready answer j fi at pos nz lr ok = on_ready_keeps w n x from j at nz ok
-  hears_keeps law w n x from OpenView answer j fi at pos nz lr ok = on_open_view_keeps w n x from j at ok
+  hears_keeps law w n x from Ready answer j fi at pos nz lr ok = (on_ready_keeps w n x from j at nz ok).0
+  hears_keeps law w n x from OpenView answer j fi at pos nz lr ok = (on_open_view_keeps w n x from j at ok).0
 
   hears_dies : (w : World M) (n : ℕ) (x : NodeState M) (from : ℕ) (b : Body) (answer : Answer) → Invariant w → w.nodes n ≡ Some x → 0 < inc_of x.join.view.members from → MsgOk w x.join.view from n b → Dies w n x (receiving.hears x from b w.log.held answer)
   hears_dies w n x from (Ask q u) answer j at pos ok = ask_dies w n x from q u answer j at pos ok
@@ -85,12 +86,12 @@ module _ {M : Machine} where
       (λ x at. option_cases (λ (u : World M). Invariant u) (view_in w.chain v) w (λ u. install w n x u opening) (λ none. j) (λ u some. install_keeps law w n x u opening j at (view_at_number w v u j some)))
   happens_keeps law w (Deliver k answer) j fi lo = option_cases (λ (u : World M). Invariant u) (at_place w.pool k) w (λ p. deliver w p answer) (λ none. j)
       (λ p some. option_cases (λ (u : World M). Invariant u) (w.nodes p.to) w (λ x. absorb p.to (receive x p w.log.held answer).out (logs (number_of x) (receive x p w.log.held answer) w)) (λ none. j)
-      (λ x at. receive_keeps law w p.to x p answer j fi lo at (j.pool (k - 1) p (at_get w.pool k p some)) refl))
-  happens_keeps law w (Submit n u valid) j fi lo = at_keeps (λ (v : World M). Invariant v) w n (λ x. absorb n (submit x u) (noted n x u w)) j (λ x at. submit_keeps w n x u j at)
+      (λ x at. told_keeps (logs (number_of x) (receive x p w.log.held answer) w) p.to (receive x p w.log.held answer).out (receive_keeps law w p.to x p answer j fi lo at (j.pool (k - 1) p (at_get w.pool k p some)) refl)))
+  happens_keeps law w (Submit n u valid) j fi lo = at_keeps (λ (v : World M). Invariant v) w n (λ x. absorb n (submit x u) (noted n x u w)) j (λ x at. told_keeps (noted n x u w) n (submit x u) (submit_keeps w n x u j at))
   happens_keeps law w (Read n) j fi lo = at_keeps (λ (v : World M). Invariant v) w n (λ x. if joining.is_open x.join then absorb n (nothing x) (reads n x w) else w) j (λ x at. if_cases (λ (v : World M). Invariant v) (joining.is_open x.join) _ _ (λ op. read_keeps w n x j at op) (λ op. j))
-  happens_keeps law w (Tick n) j fi lo = at_keeps (λ (v : World M). Invariant v) w n (λ x. absorb n (tick x) w) j (λ x at. tick_keeps law w n x j at (lo n x at))
+  happens_keeps law w (Tick n) j fi lo = at_keeps (λ (v : World M). Invariant v) w n (λ x. absorb n (tick x) w) j (λ x at. told_keeps w n (tick x) (tick_keeps law w n x j at (lo n x at)))
   happens_keeps law w (Clock n stamp) j fi lo = if_cases (λ (v : World M). Invariant v) (nat_lt stamp (2 ^ 64)) _ _ (λ g. at_keeps (λ (v : World M). Invariant v) w n (λ x. absorb n (clock x stamp) w) j (λ x at. clock_keeps w n x stamp j at)) (λ g. j)
-  happens_keeps law w (Checkpoint n good) j fi lo = at_keeps (λ (v : World M). Invariant v) w n (λ x. absorb n (checkpoint x w.log.held good) w) j (λ x at. checkpoint_keeps w n x good j at)
+  happens_keeps law w (Checkpoint n good) j fi lo = at_keeps (λ (v : World M). Invariant v) w n (λ x. absorb n (checkpoint x w.log.held good) w) j (λ x at. told_keeps w n (checkpoint x w.log.held good) (checkpoint_keeps w n x good j at))
   happens_keeps law w (Die n) j fi lo = stop_keeps w n j
   happens_keeps law w (DieInDeliver k answer) j fi lo = option_cases (λ (u : World M). Invariant u) (at_place w.pool k) w (λ p. die_in_deliver w p answer) (λ none. j)
       (λ p some. option_cases (λ (u : World M). Invariant u) (w.nodes p.to) w (λ x. stopped p.to (with_log (leave (written (receive x p w.log.held answer)) (number_of x) w.log) w)) (λ none. j)
@@ -184,13 +185,16 @@ module _ (M : Machine) where
   pub opening_holds : (cap : ℕ) → M.IsCap cap → Holds (opening M cap)
   opening_holds cap is_cap = record { invariant = opening_ok cap; fitting = opening_fits M cap is_cap; lockers = λ n x e. absurd (cc) }
 
-  pub run_keeps : IsMachine M → (es : List Event) (w : World M) → Holds w → Holds (run es w)
-  run_keeps law [] w h = h
-  run_keeps law (e ∷ es) w h = run_keeps law es (happens w e) (record {
+  pub happens_holds : IsMachine M → (w : World M) (e : Event) → Holds w → Holds (happens w e)
+  happens_holds law w e h = record {
     invariant = happens_keeps law w e h.invariant h.fitting h.lockers;
     fitting = happens_fits law w e h.invariant h.fitting;
     lockers = lockers_keep w e h.lockers;
-  })
+  }
+
+  pub run_keeps : IsMachine M → (es : List Event) (w : World M) → Holds w → Holds (run es w)
+  run_keeps law [] w h = h
+  run_keeps law (e ∷ es) w h = run_keeps law es (happens w e) (happens_holds law w e h)
 
   pub run_holds : IsMachine M → (cap : ℕ) (es : List Event) → M.IsCap cap → Holds (run es (opening M cap))
   run_holds law cap es is_cap = run_keeps law es (opening M cap) (opening_holds cap is_cap)

@@ -24,7 +24,8 @@ use Rattle.cluster_rules.specs.Nodes.{NodeState, Out, Replica, done_of, halts, h
 use Rattle.cluster_rules.specs.Updates.{tick_head, tick_lock}
 use Rattle.cluster_rules.specs.Joins.{offer_each, offered_cap, tick_join}
 use Rattle.cluster_rules.specs.Receiving.{checkpoint, clock, tick}
-use Rattle.cluster_rules.specs.Worlds.{Point, World, absorb, acked, reads, sent}
+use Rattle.cluster_rules.specs.Worlds.{Point, World, acked, reads, sent}
+use Rattle.cluster_laws.proofs.History.{absorbed}
 use Rattle.cluster_laws.proofs.Inv.{AckOk, Invariant, LoggedIn, MemberOk, NodeOk, OwnerOk, Past, Pooled}
 use Rattle.cluster_laws.proofs.Stable.{Ext, Grown, grown_refl}
 use Rattle.cluster_laws.proofs.Moves.{quiet_points, ext_on, move_on, node_on, with_history, at_self, move_keeps, moved, node_in, none_acked, none_told, one_told, owner_moves, put_cases, slice_get_append, stay_keeps, stay_tells, told}
@@ -136,15 +137,19 @@ module _ {M : Machine} where
       let nz : x.join.view.number ≢ 0 = λ e. absurd (omega (arith, e, (place_within w.chain x.join.view.number c.2 c.3).0)) in
       tells_one P (packet x (locker_at x) (Need got)) (told w n x x es (locker_at x) (Need got) h nz refl refl tt)))
 
-  pub tick_keeps : IsMachine M → (w : World M) (n : ℕ) (x : NodeState M) → Invariant w → w.nodes n ≡ Some x → (joining.locks x.join ≡ true → x.join.view.number ≢ 0 → joining.is_ready x.join ≡ true) → Invariant (absorb n (tick x) w)
-  tick_keeps law w n x j at lr =
+  pub tick_told : IsMachine M → (w : World M) (n : ℕ) (x : NodeState M) → Invariant w → w.nodes n ≡ Some x → (joining.locks x.join ≡ true → x.join.view.number ≢ 0 → joining.is_ready x.join ≡ true) → Tells (λ (p : Sent). Pooled (moved w n x (tick x).effects) p) (tick x).effects
+  tick_told law w n x j at lr =
       let es : List Effect = (tick x).effects in
       let P : Sent → Type 0 = λ p. Pooled (moved w n x es) p in
-      let t : Tells P es = tells_both P (tick_head x (updating.ticked x.core)) (tick_lock x ++ tick_join x (joining.ticked x.join)) (head_told w n x es j at) (tells_both P (tick_lock x) (tick_join x (joining.ticked x.join)) (lock_told w n x es j at) (join_told law w n x es j at lr)) in
-      stay_tells w n x es j at t.quiet t.each
+      tells_both P (tick_head x (updating.ticked x.core)) (tick_lock x ++ tick_join x (joining.ticked x.join)) (head_told w n x es j at) (tells_both P (tick_lock x) (tick_join x (joining.ticked x.join)) (lock_told w n x es j at) (join_told law w n x es j at lr))
+
+  pub tick_keeps : IsMachine M → (w : World M) (n : ℕ) (x : NodeState M) → Invariant w → w.nodes n ≡ Some x → (joining.locks x.join ≡ true → x.join.view.number ≢ 0 → joining.is_ready x.join ≡ true) → Invariant (absorbed n (tick x) w)
+  tick_keeps law w n x j at lr =
+      let t = tick_told law w n x j at lr in
+      stay_tells w n x (tick x).effects j at t.quiet t.each
 
   -- the stamp is set
-  pub clock_keeps : (w : World M) (n : ℕ) (x : NodeState M) (stamp : ℕ) → Invariant w → w.nodes n ≡ Some x → Invariant (absorb n (clock x stamp) w)
+  pub clock_keeps : (w : World M) (n : ℕ) (x : NodeState M) (stamp : ℕ) → Invariant w → w.nodes n ≡ Some x → Invariant (absorbed n (clock x stamp) w)
   clock_keeps w n x stamp j at =
       let h : NodeOk w n x = j.nodes n x at in
       let y : NodeState M = record x { stamp = stamp } in
@@ -197,20 +202,20 @@ module _ {M : Machine} where
         member = λ a z ne o k op i. let old : MemberOk w.log z.core.lock n x = k.members op n x at i in record { near = old.near; free = old.free; heads = old.heads };
       })
 
-  pub checkpoint_keeps : (w : World M) (n : ℕ) (x : NodeState M) (good : Bool) → Invariant w → w.nodes n ≡ Some x → Invariant (absorb n (checkpoint x w.log.held good) w)
+  pub checkpoint_keeps : (w : World M) (n : ℕ) (x : NodeState M) (good : Bool) → Invariant w → w.nodes n ≡ Some x → Invariant (absorbed n (checkpoint x w.log.held good) w)
   checkpoint_keeps w n x good j at =
-      let P : Out M → Type 0 = λ o. Invariant (absorb n o w) in
+      let P : Out M → Type 0 = λ o. Invariant (absorbed n o w) in
       let dies : P (halts halt.Disk) = halt_keeps w n (stop_keeps w n j) in
       if_cases P (x.core.is_open && updating.locks x.core) _ _
       (λ g. if_cases P (nat_lt (number_of x) w.log.held) _ _ (λ f. dies) (λ f. if_cases P good _ _ (λ b. stay_keeps w n x j at) (λ b. dies)))
       (λ g. stay_keeps w n x j at)
 
   -- a reader is answered
-  pub read_keeps : (w : World M) (n : ℕ) (x : NodeState M) → Invariant w → w.nodes n ≡ Some x → joining.is_open x.join ≡ true → Invariant (absorb n (nothing x) (reads n x w))
+  pub read_keeps : (w : World M) (n : ℕ) (x : NodeState M) → Invariant w → w.nodes n ≡ Some x → joining.is_open x.join ≡ true → Invariant (absorbed n (nothing x) (reads n x w))
   read_keeps w n x j at op =
       let h : NodeOk w n x = j.nodes n x at in
-      let pt : Point = record { node = n; inc = x.join.inc; place = done_of x } in
-      let ps : List Point = w.points ++ pt ∷ [] in
+      let pt : Point M = record { node = n; inc = x.join.inc; place = done_of x; req = 0; outcome = None } in
+      let ps : List (Point M) = w.points ++ pt ∷ [] in
       let self : (P : NodeState M → Type 0) → P x → (z : NodeState M) → w.nodes n ≡ Some z → P z = λ P p z e. let q : Some x ≡ Some z = sym at ∙ e in let g : x ≡ z = cc in subst P g p in
       let now_ : Past w n x.join.inc (done_of x) = record {
         started = omega (arith, h.inc);
@@ -222,7 +227,7 @@ module _ {M : Machine} where
       move_on w w.requests ps n x x [] (λ m i q u e. e) (λ m ne. refl) j.log.unasked
       (λ a p s. ⊎_elim
       (λ (c : slice_get w.points a ≡ Some p). j.points a p c)
-      (λ (c : (a ≡ length w.points) × (p ≡ pt)). subst (λ (t : Point). Past w t.node t.inc t.place) (sym c.1) now_)
+      (λ (c : (a ≡ length w.points) × (p ≡ pt)). subst (λ (t : Point M). Past w t.node t.inc t.place) (sym c.1) now_)
       (get_push w.points pt a p s))
       (λ a b p q sa sb le nd ic. ⊎_elim
       (λ (c : slice_get w.points b ≡ Some q). ⊎_elim
@@ -231,11 +236,11 @@ module _ {M : Machine} where
       (get_push w.points pt a p sa))
       (λ (c : (b ≡ length w.points) × (q ≡ pt)). ⊎_elim
       (λ (d : slice_get w.points a ≡ Some p).
-      let same_node : p.node ≡ n = nd ∙ ap (λ (t : Point). t.node) c.1 in
-      let same_inc : x.join.inc ≡ p.inc = sym (ic ∙ ap (λ (t : Point). t.inc) c.1) in
+      let same_node : p.node ≡ n = nd ∙ ap (λ (t : Point M). t.node) c.1 in
+      let same_inc : x.join.inc ≡ p.inc = sym (ic ∙ ap (λ (t : Point M). t.inc) c.1) in
       let o : Past w n p.inc p.place = subst (λ (t : ℕ). Past w t p.inc p.place) same_node (j.points a p d) in
-      omega (arith, o.done x at same_inc, ap (λ (t : Point). t.place) c.1))
-      (λ (d : (a ≡ length w.points) × (p ≡ pt)). omega (arith, ap (λ (t : Point). t.place) c.1, ap (λ (t : Point). t.place) d.1))
+      omega (arith, o.done x at same_inc, ap (λ (t : Point M). t.place) c.1))
+      (λ (d : (a ≡ length w.points) × (p ≡ pt)). omega (arith, ap (λ (t : Point M). t.place) c.1, ap (λ (t : Point M). t.place) d.1))
       (get_push w.points pt a p sa))
       (get_push w.points pt b q sb))
       j at (record {

@@ -5,9 +5,9 @@
 
 mod progress;
 
-ghost use Rattle.std.specs.Prelude.{◌≡◌, ◌++◌, ℕ, List};
+ghost use Rattle.std.specs.Prelude.{◌≡◌, ◌++◌, ℕ, Bool, List};
 ghost use Rattle.cluster_rules.specs.Machines.{Machine, IsMachine};
-ghost use Rattle.cluster_rules.specs.Promises.{Kept, Safe, Steady};
+ghost use Rattle.cluster_rules.specs.Promises.{Answered, Kept, Recovers, Safe, Steady};
 ghost use Rattle.update_records.specs.Entry.{Entry};
 ghost use Rattle.cluster_rules.specs.Worlds.{Event, opening, run};
 
@@ -39,7 +39,19 @@ pub fn steady<R: Replicated>()
     ensures { (cap : ℕ) (events : List Event) → R.machine.IsCap cap → Steady (run events (opening R.machine cap)) }
 {}
 
-/// The order only grows.
+/// Each client of an update is told the place of its own record and what that record comes to there, and the requests of
+/// an incarnation are answered in their order, each once and none left out.
+pub fn answered<R: Replicated>()
+    ensures { (cap : ℕ) (events : List Event) → R.machine.IsCap cap → Answered (run events (opening R.machine cap)) }
+{}
+
+/// The order only grows: no record of it is ever replaced or lost.
 pub fn grows<R: Replicated>()
     ensures { (cap : ℕ) (events more : List Event) → R.machine.IsCap cap → (rest : List Entry) × ((run (events ++ more) (opening R.machine cap)).log.order ≡ (run events (opening R.machine cap)).log.order ++ rest) }
+{}
+
+/// A log that is recovered, at whatever moment, begins with the order as it stands then; at most a record whose append
+/// was in doubt stands behind it.
+pub fn recovered<R: Replicated>()
+    ensures { (cap : ℕ) (events : List Event) (found : Bool) → R.machine.IsCap cap → Recovers (run events (opening R.machine cap)) found }
 {}

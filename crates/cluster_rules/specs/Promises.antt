@@ -1,12 +1,12 @@
 -- What is promised of every world that a run comes to.
-use Rattle.std.specs.Prelude.{◌≡◌, ℕ, ◌+◌, ◌≤◌, true, length, Some}
+use Rattle.std.specs.Prelude.{◌≡◌, ℕ, ◌+◌, ◌-◌, ◌<◌, ◌≤◌, Bool, true, List, ◌++◌, length, Some}
 use Rattle.std.specs.List.{AllByRecursion}
 use Rattle.gum_messages.specs.Places.{at_place}
 use Rattle.update_records.specs.Entry.{Entry}
 use Rattle.view_reconcile.specs.Joining as joining
-use Rattle.cluster_rules.specs.Machines.{Machine, registry_at}
+use Rattle.cluster_rules.specs.Machines.{Machine, outcome_at, registry_at}
 use Rattle.cluster_rules.specs.Nodes.{NodeState, Replica, number_of}
-use Rattle.cluster_rules.specs.Worlds.{Point, World}
+use Rattle.cluster_rules.specs.Worlds.{Point, World, found_log}
 
 -- Every registry is a prefix's of the one order; records stand at their places, none is logged twice, and each is the
 -- update of the request that its id names and fits the machine. The doubtful record is the next one, fits, and is no
@@ -29,4 +29,17 @@ pub record Kept {M : Machine} (w : World M) : Type 0 where
 
 -- The points at which one incarnation of a node answers never fall.
 pub record Steady {M : Machine} (w : World M) : Type 0 where
-  pub rises : (a b : ℕ) (p q : Point) → at_place w.points a ≡ Some p → at_place w.points b ≡ Some q → a ≤ b → p.node ≡ q.node → p.inc ≡ q.inc → p.place ≤ q.place
+  pub rises : (a b : ℕ) (p q : Point M) → at_place w.points a ≡ Some p → at_place w.points b ≡ Some q → a ≤ b → p.node ≡ q.node → p.inc ≡ q.inc → p.place ≤ q.place
+
+-- Each answer to a request has the place of its own record, and what that record comes to there. The requests of an
+-- incarnation are answered in their order, each once and none left out.
+pub record Answered {M : Machine} (w : World M) : Type 0 where
+  pub stands : (a : ℕ) (p : Point M) → at_place w.points a ≡ Some p → 0 < p.req → (e : Entry) × (at_place w.log.order p.place ≡ Some e) × (e.id ≡ record { node = p.node; inc = p.inc; req = p.req }) × (p.outcome ≡ Some (outcome_at M w.log.cap w.log.order (p.place - 1) e))
+  pub rises : (a b : ℕ) (p q : Point M) → at_place w.points a ≡ Some p → at_place w.points b ≡ Some q → a < b → p.node ≡ q.node → p.inc ≡ q.inc → 0 < p.req → 0 < q.req → p.req < q.req
+  pub none_left_out : (a k : ℕ) (p : Point M) → at_place w.points a ≡ Some p → 0 < k → k < p.req → (b : ℕ) × (q : Point M) × (at_place w.points b ≡ Some q) × (q.node ≡ p.node) × (q.inc ≡ p.inc) × (q.req ≡ k)
+
+-- Whatever a recovery finds begins with the order, so with every acknowledged record, and has one record more at most.
+pub record Recovers {M : Machine} (w : World M) (found : Bool) : Type 0 where
+  pub rest : List Entry
+  pub begins : (found_log found w.log).order ≡ w.log.order ++ rest
+  pub few : length rest ≤ 1

@@ -37,10 +37,13 @@ pub record Log : Type 0 where
   pub count : ℕ → Option ℕ
 
 -- A node answered in one of its incarnations: a reader by the registry behind so many records, or an update by its place.
-pub record Point : Type 0 where
+pub record Point (M : Machine) : Type 0 where
   pub node : ℕ
   pub inc : ℕ
   pub place : ℕ
+  -- The request, 0 for a reader, and what its client was told.
+  pub req : ℕ
+  pub outcome : Option M.Outcome
 
 pub record World (M : Machine) : Type 0 where
   pub nodes : ℕ → Option (NodeState M)
@@ -54,7 +57,7 @@ pub record World (M : Machine) : Type 0 where
   -- History, which no node reads: the updates that a node took in each of its incarnations; request q is the q-th.
   pub requests : ℕ → ℕ → List Update
   -- History: all points of the order at which nodes answered, in the order in which they did.
-  pub points : List Point
+  pub points : List (Point M)
   pub log : Log
 
 abbrev pub opening : (M : Machine) → ℕ → World M
@@ -109,9 +112,13 @@ acked [] = []
 acked (e ∷ es) = elim e [ Acked view place ↦ (view, place) ∷ acked es | _ ↦ acked es ]
 
 -- An acknowledgement is an answer at its place.
-abbrev pub answered : ℕ → ℕ → List (ℕ × ℕ) → List Point
-answered node inc [] = []
-answered node inc (a ∷ as_) = record { node = node; inc = inc; place = a.1 } ∷ answered node inc as_
+abbrev pub points_of : {M : Machine} → ℕ → ℕ → ℕ → Option M.Outcome → List (ℕ × ℕ) → List (Point M)
+points_of node inc req outcome [] = []
+points_of {M} node inc req outcome (a ∷ as_) = record { node = node; inc = inc; place = a.1; req = req; outcome = outcome } ∷ points_of {M = M} node inc req outcome as_
+
+-- The request of the head that a node has, where it has one.
+abbrev pub head_of : {M : Machine} → Option (NodeState M) → ℕ
+head_of x = elim x [ None ↦ 0 | Some y ↦ y.core.passed + 1 ]
 
 -- A node has done this. The incarnation that runs is the last one that was started.
 abbrev pub absorb : {M : Machine} → ℕ → Out M → World M → World M
@@ -119,7 +126,7 @@ absorb n o w = record w {
   nodes = put w.nodes n o.node;
   pool = w.pool ++ sent o.effects;
   acks = w.acks ++ acked o.effects;
-  points = w.points ++ answered n (w.starts n) (acked o.effects);
+  points = w.points ++ points_of n (w.starts n) (head_of (w.nodes n)) o.outcome (acked o.effects);
 }
 
 abbrev pub stopped : {M : Machine} → ℕ → World M → World M
@@ -195,7 +202,7 @@ abbrev pub noted : {M : Machine} → ℕ → NodeState M → Update → World M 
 noted n x update w = if may_submit x then record w { requests = put w.requests n (put (w.requests n) x.join.inc (w.requests n x.join.inc ++ update ∷ [])) } else w
 
 abbrev pub reads : {M : Machine} → ℕ → NodeState M → World M → World M
-reads n x w = record w { points = w.points ++ record { node = n; inc = x.join.inc; place = done_of x } ∷ [] }
+reads n x w = record w { points = w.points ++ record { node = n; inc = x.join.inc; place = done_of x; req = 0; outcome = None } ∷ [] }
 
 abbrev pub was_started : (ℕ → ℕ) → Member → Bool
 was_started starts m = nat_lt 0 m.inc && nat_le m.inc (starts m.node)
