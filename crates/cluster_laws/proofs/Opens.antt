@@ -1,4 +1,5 @@
 -- A view whose locker is open opens at each member.
+use Rattle.cluster_laws.proofs.Propagation.{near_to}
 use Rattle.cluster_laws.proofs.Leading.{move_to}
 use Rattle.cluster_laws.proofs.Leading.{turned_to}
 use Rattle.std.proofs.Common.{unwrap_or}
