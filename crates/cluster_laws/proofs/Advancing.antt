@@ -1,8 +1,6 @@
 -- Where a message is delivered or a node ticks nothing is taken back.
-use Rattle.cluster_rules.specs.Progress.{PullsOn}
-use Rattle.std.proofs.Common.{◌≡◌, ◌⊎◌, inl, inr, ⊎_elim, ℕ, zero, suc, ◌+◌, ◌-◌, ◌<◌, ◌≤◌, Bool, true, false, not, ◌&&◌, List, [], ◌∷◌, ◌++◌, length, take, drop, Option, Some, None, nat_eq, nat_lt, unwrap_or, if◌then◌else◌, slice_get, slice_set, refl, sym, ap, ◌∙◌, subst, arith}
+use Rattle.std.proofs.Common.{◌≡◌, ◌⊎◌, inl, inr, ⊎_elim, ℕ, zero, suc, ◌+◌, ◌-◌, ◌<◌, ◌≤◌, Bool, true, false, not, ◌&&◌, List, [], ◌∷◌, ◌++◌, length, take, drop, Option, Some, None, nat_eq, nat_lt, unwrap_or, if◌then◌else◌, slice_get, slice_set, refl, sym, ap, ◌∙◌, subst, arith, take-add, take_all}
 use Rattle.std.proofs.lemmas.List.{append-nil}
-use Rattle.std.proofs.Common.{take-add, take_all}
 use Rattle.gum_messages.specs.Members.{index_of}
 use Rattle.gum_messages.specs.Places.{at_place}
 use Rattle.gum_messages.specs.Messages.{Sent}
@@ -22,6 +20,7 @@ use Rattle.view_reconcile.specs.declared.step.Step.{Step}
 use Rattle.view_reconcile.specs.Joining.{ReconcileState}
 use Rattle.view_reconcile.specs.Joining as joining
 use Rattle.view_reconcile.proofs.Cases.{becomes_ready_cases, offered_cases, opened_cases, pulled_cases, readied_cases}
+use Rattle.cluster_rules.specs.Progress.{PullsOn, Monotone, goes_on}
 use Rattle.cluster_rules.specs.declared.offering.Offering.{Offering}
 use Rattle.cluster_rules.specs.Machines.{Machine, IsMachine, registry_at}
 use Rattle.cluster_rules.specs.Nodes.{NodeState, Out, Replica, done_of, locker_at, nothing, number_of, place_of, tells}
@@ -30,7 +29,6 @@ use Rattle.cluster_rules.specs.Joins.{follows, gathers, joined, known_done, mark
 use Rattle.cluster_rules.specs.Receiving as receiving
 use Rattle.cluster_rules.specs.Receiving.{receive, tick}
 use Rattle.cluster_rules.specs.Worlds.{Checkpoint, Clock, Declare, Deliver, Die, DieInDeliver, DieInInstall, Event, Install, Read, Start, Submit, Tick, World, absorb, deliver, happens, logs, opening, put, run}
-use Rattle.cluster_rules.specs.Progress.{Monotone, goes_on}
 use Rattle.cluster_laws.proofs.Inv.{MsgOk, NodeOk, state_bytes}
 use Rattle.cluster_laws.proofs.Applying.{and_true, eq_true, locker_not, lt_true, not_true}
 use Rattle.cluster_laws.proofs.Cores.{Measured}

@@ -1,29 +1,32 @@
 -- What each core keeps besides: the requests that it counts as logged stand in the order, and whom it awaits is there.
 use Rattle.std.proofs.lemmas.List.{length-append}
-use Rattle.std.proofs.Common.{unwrap_or}
-use Rattle.gum_core.proofs.Logging.{greatest_kept}
-use Rattle.gum_messages.proofs.Placing.{place_new}
-use Rattle.gum_core.proofs.Logging.{greatest_logged}
-use Rattle.cluster_laws.proofs.Applying.{eq_true}
-use Rattle.gum_core.specs.Updating.{receiver}
-use Rattle.std.proofs.Common.{◌^◌, ◌≡◌, ◌≢◌, ⊎_elim, ℕ, ◌+◌, ◌<◌, ◌≤◌, Bool, true, false, not, ◌&&◌, List, [], ◌∷◌, ◌++◌, length, Option, Some, None, nat_eq, nat_lt, if◌then◌else◌, refl, sym, ap, ◌∙◌, subst, arith}
+use Rattle.std.proofs.Common.{unwrap_or, ◌^◌, ◌≡◌, ◌≢◌, ⊎_elim, ℕ, ◌+◌, ◌<◌, ◌≤◌, Bool, true, false, not, ◌&&◌, List, [], ◌∷◌, ◌++◌, length, Option, Some, None, nat_eq, nat_lt, if◌then◌else◌, refl, sym, ap, ◌∙◌, subst, arith}
+use Rattle.gum_messages.proofs.Placing.{place_new, place_old}
 use Rattle.gum_messages.specs.declared.view.View.{View}
-use Rattle.gum_messages.specs.Members.{is_locker}
+use Rattle.gum_messages.specs.Members.{is_locker, inc_of}
 use Rattle.gum_messages.proofs.Branches.{if_cases, option_cases}
+use Rattle.gum_messages.specs.declared.body.Body.{Body}
+use Rattle.gum_messages.specs.Messages.{Sent}
+use Rattle.gum_messages.specs.declared.body.Body.TheVariants.{Ask, Granted, Apply, Applied, Release, Offer, Need, Piece, Ready, OpenView}
+use Rattle.gum_messages.specs.declared.member.Member.{Member}
+use Rattle.gum_messages.specs.Places.{at_place}
 use Rattle.update_records.specs.Entry.{Entry}
 use Rattle.update_records.specs.declared.update.Update.{Update}
+use Rattle.gum_core.proofs.Logging.{greatest_kept, greatest_logged, greatest_entered}
+use Rattle.gum_core.specs.Updating.{receiver, CoreState, greatest_of}
 use Rattle.gum_core.specs.declared.decision.Decision.{Decision}
-use Rattle.gum_core.specs.Updating.{CoreState, greatest_of}
 use Rattle.gum_core.specs.Updating as updating
+use Rattle.gum_core.proofs.Cases.{applied_cases, applying_cases, asked_cases, granted_cases, spread_cases, released_cases}
+use Rattle.gum_core.proofs.Cases.{opened_cases as core_opened_cases}
+use Rattle.gum_core.specs.declared.spreading.Spreading.{Spreading}
 use Rattle.view_reconcile.specs.declared.stage.Stage.{Stage}
 use Rattle.view_reconcile.specs.declared.stage.Stage.TheVariants as stage
 use Rattle.view_reconcile.specs.declared.step.Step.{Step}
 use Rattle.view_reconcile.specs.Joining.{ReconcileState}
 use Rattle.view_reconcile.specs.Joining as joining
+use Rattle.view_reconcile.proofs.Cases.{becomes_ready_cases, offered_cases, opened_cases, pulled_cases, readied_cases}
+use Rattle.view_reconcile.specs.Chains.{view_in}
 use Rattle.cluster_rules.specs.Machines.{Machine, registry_at}
-use Rattle.gum_messages.specs.declared.body.Body.{Body}
-use Rattle.gum_messages.specs.Messages.{Sent}
-use Rattle.gum_messages.specs.declared.body.Body.TheVariants.{Ask, Granted, Apply, Applied, Release, Offer, Need, Piece, Ready, OpenView}
 use Rattle.cluster_rules.specs.declared.offering.Offering.{Offering}
 use Rattle.cluster_rules.specs.declared.effect.HaltCause.{HaltCause}
 use Rattle.cluster_rules.specs.declared.effect.HaltCause.TheVariants as halt
@@ -33,26 +36,15 @@ use Rattle.cluster_rules.specs.Joins.{done_within, entered, follows, gathers, go
 use Rattle.cluster_rules.specs.Receiving.{checkpoint, clock, receive, tick}
 use Rattle.cluster_rules.specs.Receiving as receiving
 use Rattle.cluster_rules.specs.Worlds.{Opening, Recovered, Refused, World, absorb, claimed, found_log, install, opening, put, raise, with_log, Checkpoint, Clock, Declare, Deliver, Die, DieInDeliver, DieInInstall, Event, Install, Log, Read, Start, Submit, Tick, append, deliver, die_in_deliver, die_in_install, happens, leave, logs, may_declare, noted, opens_log, reads, stopped, written}
+use Rattle.cluster_laws.proofs.Applying.{eq_true, and_true, locker_not, lt_true}
 use Rattle.cluster_laws.proofs.Moves.{put_cases}
 use Rattle.cluster_laws.proofs.Inv.{Has, Invariant, NodeOk, OwnerOk, Stands}
 use Rattle.cluster_laws.proofs.HeadRules.{open_is_ready}
-use Rattle.gum_core.proofs.Logging.{greatest_entered}
 use Rattle.cluster_laws.proofs.Orders.{Extends, GrewLog, append_grew, found_grew, leave_grew, log_same, raise_grew}
 use Rattle.cluster_laws.proofs.Events.{at_keeps}
 use Rattle.cluster_laws.proofs.Starting.{started_world}
-use Rattle.cluster_laws.proofs.Applying.{and_true, locker_not, lt_true}
-use Rattle.gum_core.proofs.Cases.{applied_cases, applying_cases, asked_cases, granted_cases, spread_cases}
-use Rattle.gum_core.proofs.Cases.{opened_cases as core_opened_cases}
-use Rattle.view_reconcile.proofs.Cases.{becomes_ready_cases, offered_cases, opened_cases, pulled_cases, readied_cases}
 use Rattle.cluster_laws.proofs.Recovering.{entered_is, taken_view}
 use Rattle.cluster_laws.proofs.Offering.{has_bytes, place_is}
-use Rattle.gum_core.specs.declared.spreading.Spreading.{Spreading}
-use Rattle.gum_core.proofs.Cases.{released_cases}
-use Rattle.gum_messages.specs.declared.member.Member.{Member}
-use Rattle.gum_messages.specs.Members.{inc_of}
-use Rattle.gum_messages.specs.Places.{at_place}
-use Rattle.view_reconcile.specs.Chains.{view_in}
-use Rattle.gum_messages.proofs.Placing.{place_old}
 
 -- What each core keeps besides: a request that it counts as logged stands in the order, and whom it awaits is there
 pub record CoreOk (l : Log) (c : CoreState) : Type 0 where

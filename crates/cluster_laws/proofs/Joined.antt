@@ -1,70 +1,56 @@
 -- Who counts as ready is ready: what lockers count, and what messages say of it.
-use Rattle.std.proofs.Common.{unwrap_or}
-use Rattle.std.proofs.Common.{◌^◌, ◌≡◌, ◌≢◌, ⊎_elim, ℕ, ◌+◌, ◌<◌, ◌≤◌, Bool, true, false, not, ◌&&◌, List, [], ◌∷◌, ◌++◌, length, Option, Some, None, nat_eq, nat_lt, if◌then◌else◌, refl, sym, ap, ◌∙◌, subst, arith}
+use Rattle.std.proofs.Common.{unwrap_or, ◌^◌, ◌≡◌, ◌≢◌, ⊎_elim, ℕ, ◌+◌, ◌<◌, ◌≤◌, Bool, true, false, not, ◌&&◌, List, [], ◌∷◌, ◌++◌, length, Option, Some, None, nat_eq, nat_lt, if◌then◌else◌, refl, sym, ap, ◌∙◌, subst, arith, ◌||◌, ◌⊎◌, inl, inr, zero, suc, slice_get, replicate, length-set, append_assoc, ◌-◌}
+use Rattle.std.proofs.lemmas.List.{length-replicate}
+use Rattle.std.specs.List.{list_all}
 use Rattle.gum_messages.specs.declared.view.View.{View}
-use Rattle.gum_messages.specs.Members.{is_locker, is_member}
+use Rattle.gum_messages.specs.Members.{is_locker, is_member, inc_of, index_of, spread_of}
 use Rattle.gum_messages.proofs.Branches.{if_cases, option_cases}
+use Rattle.gum_messages.specs.declared.body.Body.{Body}
+use Rattle.gum_messages.specs.Messages.{Sent}
+use Rattle.gum_messages.specs.declared.body.Body.TheVariants.{Ask, Granted, Apply, Applied, Release, Offer, Need, Piece, Ready, OpenView}
+use Rattle.gum_messages.specs.declared.member.Member.{Member}
+use Rattle.gum_messages.specs.Places.{at_place}
+use Rattle.gum_messages.proofs.Placing.{place_old}
+use Rattle.gum_messages.specs.Views.{Ascend}
 use Rattle.update_records.specs.Entry.{Entry}
 use Rattle.update_records.specs.declared.update.Update.{Update}
 use Rattle.gum_core.specs.declared.decision.Decision.{Decision}
 use Rattle.gum_core.specs.Updating.{CoreState, greatest_of}
 use Rattle.gum_core.specs.Updating as updating
+use Rattle.gum_core.proofs.Cases.{applied_cases, applying_cases, asked_cases, granted_cases, spread_cases}
+use Rattle.gum_core.proofs.Cases.{opened_cases as core_opened_cases}
+use Rattle.gum_core.specs.declared.decision.Decision.TheVariants as decision
 use Rattle.view_reconcile.specs.declared.stage.Stage.{Stage}
 use Rattle.view_reconcile.specs.declared.stage.Stage.TheVariants as stage
 use Rattle.view_reconcile.specs.declared.step.Step.{Step}
 use Rattle.view_reconcile.specs.Joining.{ReconcileState}
 use Rattle.view_reconcile.specs.Joining as joining
+use Rattle.view_reconcile.proofs.Cases.{becomes_ready_cases, offered_cases, opened_cases, pulled_cases, readied_cases}
+use Rattle.view_reconcile.specs.Chains.{view_in}
+use Rattle.view_reconcile.specs.declared.step.Step.TheVariants as step
+use Rattle.view_reconcile.proofs.Marking.{each_counts, marked_says, none_marked}
 use Rattle.cluster_rules.specs.Machines.{Machine, registry_at}
-use Rattle.gum_messages.specs.declared.body.Body.{Body}
-use Rattle.gum_messages.specs.Messages.{Sent}
-use Rattle.gum_messages.specs.declared.body.Body.TheVariants.{Ask, Granted, Apply, Applied, Release, Offer, Need, Piece, Ready, OpenView}
 use Rattle.cluster_rules.specs.declared.offering.Offering.{Offering}
 use Rattle.cluster_rules.specs.declared.effect.HaltCause.{HaltCause}
 use Rattle.cluster_rules.specs.declared.effect.HaltCause.TheVariants as halt
-use Rattle.cluster_rules.specs.Nodes.{NodeState, fresh, members_of, Out, done_of, halts, locker_at, nothing, number_of, place_of, tells}
-use Rattle.cluster_rules.specs.Updates.{Answer, asked_for, InDoubt, Logged, Unwritten, Written, answers, applied, applies, begins, entry_for, has_logged, may_submit, on_applied, on_apply, on_ask, on_granted, opens, proceeds, submit, unlogged, without_head}
-use Rattle.cluster_rules.specs.Joins.{done_within, entered, follows, gathers, goes_on, hears_itself, joined, known_done, last_of, marks_ready, on_need, on_offer, on_open_view, on_piece, on_ready, piece, recovers, says_ready, sends_piece, takes_view, with_replica}
+use Rattle.cluster_rules.specs.Nodes.{NodeState, fresh, members_of, Out, done_of, halts, locker_at, nothing, number_of, place_of, tells, acknowledges, after, asks, becomes, packet, to_each}
+use Rattle.cluster_rules.specs.Updates.{Answer, asked_for, InDoubt, Logged, Unwritten, Written, answers, applied, applies, begins, entry_for, has_logged, may_submit, on_applied, on_apply, on_ask, on_granted, opens, proceeds, submit, unlogged, without_head, tick_head, tick_lock}
+use Rattle.cluster_rules.specs.Joins.{done_within, entered, follows, gathers, goes_on, hears_itself, joined, known_done, last_of, marks_ready, on_need, on_offer, on_open_view, on_piece, on_ready, piece, recovers, says_ready, sends_piece, takes_view, with_replica, offer_each, offered_cap, tick_join}
 use Rattle.cluster_rules.specs.Receiving.{checkpoint, clock, receive, tick}
 use Rattle.cluster_rules.specs.Receiving as receiving
-use Rattle.cluster_rules.specs.Worlds.{Opening, Recovered, Refused, World, absorb, claimed, found_log, install, opening, put, raise, with_log, Checkpoint, Clock, Declare, Deliver, Die, DieInDeliver, DieInInstall, Event, Install, Read, Start, Submit, Tick, deliver, die_in_deliver, die_in_install, happens, leave, logs, may_declare, noted, reads, stopped, written}
+use Rattle.cluster_rules.specs.Worlds.{Opening, Recovered, Refused, World, absorb, claimed, found_log, install, opening, put, raise, with_log, Checkpoint, Clock, Declare, Deliver, Die, DieInDeliver, DieInInstall, Event, Install, Read, Start, Submit, Tick, deliver, die_in_deliver, die_in_install, happens, leave, logs, may_declare, noted, reads, stopped, written, sent}
+use Rattle.cluster_rules.specs.declared.effect.Effect.TheVariants.{Acked, Batched, Closed, Halted, Opened, Reply, Send}
+use Rattle.cluster_rules.specs.declared.effect.Effect.{Effect}
 use Rattle.cluster_laws.proofs.Guards.{or_either}
-use Rattle.cluster_laws.proofs.Moves.{put_cases}
+use Rattle.cluster_laws.proofs.Moves.{put_cases, slice_get_append}
 use Rattle.cluster_laws.proofs.Inv.{Invariant, NodeOk}
 use Rattle.cluster_laws.proofs.HeadRules.{open_is_ready}
 use Rattle.cluster_laws.proofs.Events.{at_get, at_keeps}
 use Rattle.cluster_laws.proofs.Starting.{started_world}
-use Rattle.cluster_laws.proofs.Applying.{and_true, locker_not, lt_true, not_true}
-use Rattle.gum_core.proofs.Cases.{applied_cases, applying_cases, asked_cases, granted_cases, spread_cases}
-use Rattle.gum_core.proofs.Cases.{opened_cases as core_opened_cases}
-use Rattle.view_reconcile.proofs.Cases.{becomes_ready_cases, offered_cases, opened_cases, pulled_cases, readied_cases}
+use Rattle.cluster_laws.proofs.Applying.{and_true, locker_not, lt_true, not_true, eq_true}
 use Rattle.cluster_laws.proofs.Recovering.{entered_is, taken_view}
-use Rattle.cluster_laws.proofs.Offering.{place_is}
-use Rattle.gum_messages.specs.declared.member.Member.{Member}
-use Rattle.gum_messages.specs.Members.{inc_of}
-use Rattle.gum_messages.specs.Places.{at_place}
-use Rattle.view_reconcile.specs.Chains.{view_in}
-use Rattle.gum_messages.proofs.Placing.{place_old}
-use Rattle.std.proofs.Common.{◌||◌, ◌⊎◌, inl, inr, zero, suc, slice_get, replicate}
-use Rattle.std.proofs.lemmas.List.{length-replicate}
-use Rattle.std.proofs.Common.{length-set, append_assoc}
-use Rattle.gum_messages.specs.Members.{index_of}
-use Rattle.std.specs.List.{list_all}
-use Rattle.gum_messages.specs.Views.{Ascend}
-use Rattle.cluster_rules.specs.declared.effect.Effect.TheVariants.{Acked, Batched, Closed, Halted, Opened, Reply, Send}
-use Rattle.cluster_rules.specs.declared.effect.Effect.{Effect}
-use Rattle.cluster_rules.specs.Nodes.{acknowledges, after, asks, becomes, packet, to_each}
-use Rattle.gum_messages.specs.Members.{spread_of}
-use Rattle.cluster_rules.specs.Worlds.{sent}
-use Rattle.cluster_laws.proofs.Applying.{eq_true}
-use Rattle.cluster_laws.proofs.Moves.{slice_get_append}
-use Rattle.std.proofs.Common.{◌-◌}
-use Rattle.gum_core.specs.declared.decision.Decision.TheVariants as decision
-use Rattle.view_reconcile.specs.declared.step.Step.TheVariants as step
-use Rattle.cluster_rules.specs.Updates.{tick_head, tick_lock}
-use Rattle.cluster_rules.specs.Joins.{offer_each, offered_cap, tick_join}
-use Rattle.cluster_laws.proofs.Offering.{pulling_unready, taken_ready}
+use Rattle.cluster_laws.proofs.Offering.{place_is, pulling_unready, taken_ready}
 use Rattle.cluster_laws.proofs.Opening.{sent_append}
-use Rattle.view_reconcile.proofs.Marking.{each_counts, marked_says, none_marked}
 
 abbrev Quiet : List Effect → Type 0
 Quiet es = (k : ℕ) (p : Sent) → slice_get (sent es) k ≡ Some p → (p.body ≡ Ready → ⊥) × (p.body ≡ OpenView → ⊥)

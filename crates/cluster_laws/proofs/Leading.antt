@@ -1,5 +1,4 @@
 -- Ways that a world can go on: what a tick and a delivery make of it, where a view stands.
-use Rattle.cluster_rules.specs.Nodes.{acknowledges}
 use Rattle.std.proofs.Common.{◌≡◌, ◌≢◌, ⊎_elim, ℕ, suc, ◌<◌, ◌≤◌, Bool, true, false, ◌&&◌, List, [], ◌∷◌, ◌++◌, length, Option, Some, None, nat_eq, slice_get, refl, sym, ap, ◌∙◌, subst, arith}
 use Rattle.std.specs.List.{list_all}
 use Rattle.gum_messages.specs.declared.view.View.{View}
@@ -7,12 +6,12 @@ use Rattle.gum_messages.specs.Members.{inc_of}
 use Rattle.gum_messages.specs.Places.{at_place}
 use Rattle.gum_messages.specs.Views.{IsView}
 use Rattle.gum_messages.proofs.Branches.{if_cases}
+use Rattle.gum_messages.specs.Messages.{Sent}
 use Rattle.view_reconcile.specs.Joining.{ReconcileState}
 use Rattle.view_reconcile.specs.Joining as joining
+use Rattle.cluster_rules.specs.Nodes.{acknowledges, NodeState, Out, becomes, number_of}
 use Rattle.cluster_rules.specs.Machines.{Machine, IsMachine}
-use Rattle.gum_messages.specs.Messages.{Sent}
 use Rattle.cluster_rules.specs.declared.effect.Effect.{Effect}
-use Rattle.cluster_rules.specs.Nodes.{NodeState, Out, becomes, number_of}
 use Rattle.cluster_rules.specs.Updates.{Logged, Written, unlogged}
 use Rattle.cluster_rules.specs.Receiving.{receive, tick}
 use Rattle.cluster_rules.specs.Worlds.{Deliver, Event, Log, Tick, World, absorb, deliver, happens, logs, put, run, sent, with_log}

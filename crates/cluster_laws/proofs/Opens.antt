@@ -1,18 +1,20 @@
 -- A view whose locker is open opens at each member.
-use Rattle.cluster_laws.proofs.Propagation.{near_to}
-use Rattle.cluster_laws.proofs.Leading.{move_to}
-use Rattle.cluster_laws.proofs.Leading.{turned_to}
-use Rattle.std.proofs.Common.{unwrap_or}
-use Rattle.std.proofs.Common.{◌≡◌, ◌≢◌, ◌⊎◌, inl, inr, ⊎_elim, ℕ, zero, suc, ◌+◌, ◌<◌, ◌≤◌, Bool, true, false, not, ◌&&◌, List, [], ◌∷◌, ◌++◌, length, drop, Option, Some, None, nat_eq, nat_lt, if◌then◌else◌, slice_get, refl, sym, ap, ◌∙◌, subst, arith}
+use Rattle.std.proofs.Common.{unwrap_or, ◌≡◌, ◌≢◌, ◌⊎◌, inl, inr, ⊎_elim, ℕ, zero, suc, ◌+◌, ◌<◌, ◌≤◌, Bool, true, false, not, ◌&&◌, List, [], ◌∷◌, ◌++◌, length, drop, Option, Some, None, nat_eq, nat_lt, if◌then◌else◌, slice_get, refl, sym, ap, ◌∙◌, subst, arith, ◌-◌, min, take, length-take, length-drop, take-add, take_all}
+use Rattle.std.specs.List.{list_all}
+use Rattle.std.specs.Prelude.{count_by, filter}
+use Rattle.std.proofs.lemmas.List.Sums.{length-filter}
 use Rattle.gum_messages.specs.declared.member.Member.{Member}
 use Rattle.gum_messages.specs.declared.view.View.{View}
-use Rattle.gum_messages.specs.Members.{inc_of, is_locker, locker_of}
+use Rattle.gum_messages.specs.Members.{inc_of, is_locker, locker_of, spread_of}
 use Rattle.gum_messages.specs.Views.{Ascend}
-use Rattle.cluster_laws.proofs.Guards.{both, eq_is, le_is, lt_is, or_either, or_left, or_right}
-use Rattle.cluster_laws.proofs.Applying.{lt_false}
-use Rattle.cluster_laws.proofs.Joined.{Joined}
 use Rattle.gum_messages.proofs.Branches.{if_cases}
+use Rattle.gum_messages.specs.declared.body.Body.{Body}
+use Rattle.gum_messages.specs.Messages.{Sent}
+use Rattle.gum_messages.specs.declared.body.Body.TheVariants.{OpenView, Ready, Need, Offer, Piece}
+use Rattle.gum_messages.proofs.Beside.{entry_kept, entry_set}
 use Rattle.update_records.specs.declared.update.Update.{Update}
+use Rattle.update_records.specs.Grammar.{last_place}
+use Rattle.update_records.specs.Entry.{Entry}
 use Rattle.gum_core.specs.declared.decision.Decision.{Decision}
 use Rattle.gum_core.specs.Updating.{CoreState}
 use Rattle.gum_core.specs.Updating as updating
@@ -23,45 +25,25 @@ use Rattle.view_reconcile.specs.declared.step.Step.{Step}
 use Rattle.view_reconcile.specs.declared.step.Step.TheVariants as step
 use Rattle.view_reconcile.specs.Joining.{ReconcileState}
 use Rattle.view_reconcile.specs.Joining as joining
-use Rattle.cluster_rules.specs.Machines.{Machine, IsMachine}
-use Rattle.gum_messages.specs.declared.body.Body.{Body}
-use Rattle.gum_messages.specs.Messages.{Sent}
-use Rattle.gum_messages.specs.declared.body.Body.TheVariants.{OpenView, Ready}
+use Rattle.view_reconcile.proofs.Cases.{becomes_ready_cases, offered_cases, readied_cases}
+use Rattle.cluster_rules.specs.Machines.{Machine, IsMachine, registry_at}
 use Rattle.cluster_rules.specs.declared.effect.Effect.{Effect}
 use Rattle.cluster_rules.specs.declared.effect.Effect.TheVariants.{Opened, Send}
-use Rattle.cluster_rules.specs.Nodes.{NodeState, Out, acknowledges, after, becomes, locker_at, nothing, packet, tells}
-use Rattle.cluster_rules.specs.Updates.{Written, begins, opens, tick_head, tick_lock, unlogged}
-use Rattle.cluster_rules.specs.Joins.{marks_ready, on_open_view, on_ready, tick_join}
+use Rattle.cluster_rules.specs.Nodes.{NodeState, Out, acknowledges, after, becomes, locker_at, nothing, packet, tells, Replica, done_of, members_of, place_of, to_each}
+use Rattle.cluster_rules.specs.Updates.{Written, begins, opens, tick_head, tick_lock, unlogged, applied}
+use Rattle.cluster_rules.specs.Joins.{marks_ready, on_open_view, on_ready, tick_join, follows, gathers, joined, known_done, offer_each, offered_cap, on_need, on_piece, piece, says_ready, sends_piece, takes_state, with_replica}
 use Rattle.cluster_rules.specs.Receiving.{hears, receive, tick}
 use Rattle.cluster_rules.specs.Worlds.{Deliver, Event, Log, Tick, World, absorb, happens, put, sent}
-use Rattle.cluster_rules.specs.Progress.{Leads, Runs, goes_on, queue_at}
-use Rattle.cluster_laws.proofs.Inv.{Invariant, NodeOk}
-use Rattle.cluster_laws.proofs.Applying.{eq_true, lt_true}
-use Rattle.update_records.specs.Grammar.{last_place}
-use Rattle.cluster_rules.specs.Progress.{Served, has_room, waiting}
-use Rattle.cluster_laws.proofs.Queues.{open_served, waiting_le}
-use Rattle.std.proofs.Common.{◌-◌, min, take, length-take, length-drop}
-use Rattle.update_records.specs.Entry.{Entry}
-use Rattle.view_reconcile.proofs.Cases.{becomes_ready_cases, offered_cases}
-use Rattle.cluster_rules.specs.Machines.{registry_at}
-use Rattle.gum_messages.specs.declared.body.Body.TheVariants.{Need, Offer, Piece}
+use Rattle.cluster_rules.specs.Progress.{Leads, Runs, goes_on, queue_at, Served, has_room, waiting}
 use Rattle.cluster_rules.specs.declared.offering.Offering.{Offering}
-use Rattle.cluster_rules.specs.Nodes.{Replica, done_of, members_of, place_of}
-use Rattle.cluster_rules.specs.Updates.{applied}
-use Rattle.cluster_rules.specs.Joins.{follows, gathers, joined, known_done, offer_each, offered_cap, on_need, on_piece, piece, says_ready, sends_piece, takes_state, with_replica}
-use Rattle.cluster_laws.proofs.Inv.{state_bytes}
-use Rattle.cluster_laws.proofs.Applying.{done_at, locker_not, state_of}
+use Rattle.cluster_laws.proofs.Propagation.{near_to, Near, near_self, above, at_back, counts_true, first_sent, locker_locks, mail, near_turned, sends, shown_at}
+use Rattle.cluster_laws.proofs.Leading.{move_to, turned_to, Held, Stand, move, leads_now, leads_then, put_self, shown, shown_same, still_is, tick_is, turned}
+use Rattle.cluster_laws.proofs.Guards.{both, eq_is, le_is, lt_is, or_either, or_left, or_right}
+use Rattle.cluster_laws.proofs.Applying.{lt_false, eq_true, lt_true, done_at, locker_not, state_of}
+use Rattle.cluster_laws.proofs.Joined.{Joined}
+use Rattle.cluster_laws.proofs.Inv.{Invariant, NodeOk, state_bytes}
+use Rattle.cluster_laws.proofs.Queues.{open_served, waiting_le}
 use Rattle.cluster_laws.proofs.Offering.{all_take, has_bytes, place_is, taken_ready}
-use Rattle.std.specs.List.{list_all}
-use Rattle.std.specs.Prelude.{count_by, filter}
-use Rattle.std.proofs.lemmas.List.Sums.{length-filter}
-use Rattle.gum_messages.proofs.Beside.{entry_kept, entry_set}
-use Rattle.view_reconcile.proofs.Cases.{readied_cases}
-use Rattle.cluster_rules.specs.Nodes.{to_each}
-use Rattle.gum_messages.specs.Members.{spread_of}
-use Rattle.std.proofs.Common.{take-add, take_all}
-use Rattle.cluster_laws.proofs.Leading.{Held, Stand, move, leads_now, leads_then, put_self, shown, shown_same, still_is, tick_is, turned}
-use Rattle.cluster_laws.proofs.Propagation.{Near, near_self, above, at_back, counts_true, first_sent, locker_locks, mail, near_turned, sends, shown_at}
 
 pub ready_stage : (s : ReconcileState) → joining.is_ready s ≡ true → joining.pulled_bytes s ≡ None
 ready_stage s h = by s.stage h

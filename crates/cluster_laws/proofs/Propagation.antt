@@ -1,7 +1,4 @@
 -- The lock is freed: what was granted spreads to each member, and is released.
-use Rattle.cluster_rules.specs.Nodes.{acknowledges}
-use Rattle.cluster_laws.proofs.Leading.{go_to}
-use Rattle.cluster_laws.proofs.Leading.{turned_to}
 use Rattle.std.proofs.Common.{◌≡◌, ℕ, zero, suc, ◌+◌, ◌<◌, ◌≤◌, Bool, true, false, not, ◌&&◌, List, [], ◌∷◌, ◌++◌, length, drop, Option, Some, None, nat_eq, nat_lt, if◌then◌else◌, slice_get, refl, sym, ap, ◌∙◌, subst, arith}
 use Rattle.gum_messages.specs.declared.member.Member.{Member}
 use Rattle.gum_messages.specs.declared.view.View.{View}
@@ -9,6 +6,9 @@ use Rattle.gum_messages.specs.Members.{inc_of, is_locker, locker_of, spread_of}
 use Rattle.gum_messages.specs.Views.{Ascend}
 use Rattle.gum_messages.proofs.Branches.{if_cases, option_cases}
 use Rattle.gum_messages.proofs.Placing.{get_within, place_within}
+use Rattle.gum_messages.specs.declared.body.Body.{Body}
+use Rattle.gum_messages.specs.Messages.{Sent}
+use Rattle.gum_messages.specs.declared.body.Body.TheVariants.{Ask, Granted, Apply, Applied, Release}
 use Rattle.update_records.specs.Entry.{Entry}
 use Rattle.update_records.specs.declared.update.Update.{Update}
 use Rattle.gum_core.specs.declared.decision.Decision.{Decision}
@@ -20,24 +20,21 @@ use Rattle.gum_core.specs.Updating as updating
 use Rattle.gum_core.proofs.Cases.{applying_cases, receiver_says}
 use Rattle.view_reconcile.specs.Joining.{ReconcileState}
 use Rattle.view_reconcile.specs.Joining as joining
+use Rattle.cluster_rules.specs.Nodes.{acknowledges, NodeState, Out, asks, becomes, done_of, locker_at, nothing, number_of, packet}
 use Rattle.cluster_rules.specs.Machines.{Machine, IsMachine}
-use Rattle.gum_messages.specs.declared.body.Body.{Body}
-use Rattle.gum_messages.specs.Messages.{Sent}
-use Rattle.gum_messages.specs.declared.body.Body.TheVariants.{Ask, Granted, Apply, Applied, Release}
 use Rattle.cluster_rules.specs.declared.effect.Effect.TheVariants.{Acked, Send}
 use Rattle.cluster_rules.specs.declared.effect.Effect.{Effect}
-use Rattle.cluster_rules.specs.Nodes.{NodeState, Out, asks, becomes, done_of, locker_at, nothing, number_of, packet}
 use Rattle.cluster_rules.specs.Updates.{Written, applied, applies, on_applied, on_apply, proceeds, tick_head, tick_lock, unlogged, without_head}
 use Rattle.cluster_rules.specs.Joins.{tick_join}
 use Rattle.cluster_rules.specs.Receiving.{counts, hears, receive, tick}
 use Rattle.cluster_rules.specs.Worlds.{Deliver, Event, Log, Tick, World, absorb, happens, sent}
 use Rattle.cluster_rules.specs.Progress.{Leads, Runs, goes_on, queue_at}
+use Rattle.cluster_laws.proofs.Leading.{go_to, turned_to, Held, Live, go, leads_now, put_self, queue_less, quiet_is, still_is, sent_held, shown, shown_same, tick_is, turned}
 use Rattle.cluster_laws.proofs.Guards.{both, eq_is, eq_not, lt_is}
 use Rattle.cluster_laws.proofs.Inv.{NodeOk, Owner, Stands}
 use Rattle.cluster_laws.proofs.Moves.{slice_get_back, slice_get_front}
 use Rattle.cluster_laws.proofs.Opening.{sent_append}
 use Rattle.cluster_laws.proofs.HeadRules.{open_is_ready}
-use Rattle.cluster_laws.proofs.Leading.{Held, Live, go, leads_now, put_self, queue_less, quiet_is, still_is, sent_held, shown, shown_same, tick_is, turned}
 
 -- Members
 pub locker_locks : (ms : List Member) → 0 < inc_of ms (locker_of ms) → is_locker ms (locker_of ms) ≡ true

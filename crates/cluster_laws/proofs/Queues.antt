@@ -4,8 +4,8 @@ use Rattle.gum_messages.specs.declared.member.Member.{Member}
 use Rattle.gum_messages.specs.declared.view.View.{View}
 use Rattle.gum_messages.specs.Members.{inc_of, is_locker, locker_of}
 use Rattle.update_records.specs.declared.update.Update.{Update}
-use Rattle.gum_core.specs.declared.lock.Lock.{Lock}
 use Rattle.update_records.specs.Grammar.{last_place}
+use Rattle.gum_core.specs.declared.lock.Lock.{Lock}
 use Rattle.view_reconcile.specs.Joining as joining
 use Rattle.cluster_rules.specs.Machines.{Machine, IsMachine}
 use Rattle.cluster_rules.specs.Nodes.{NodeState}

@@ -5,20 +5,18 @@ use Rattle.gum_messages.specs.declared.view.View.{View}
 use Rattle.gum_messages.specs.Members.{inc_of, is_locker, locker_of, spread_of}
 use Rattle.gum_messages.specs.Places.{at_place}
 use Rattle.gum_messages.proofs.Branches.{if_cases, list_cases, option_cases}
-use Rattle.cluster_laws.proofs.Guards.{both, eq_is, eq_not, le_is, lt_is, lt_not}
-use Rattle.cluster_laws.proofs.Growth.{length_snoc}
+use Rattle.gum_messages.specs.declared.body.Body.TheVariants.{Ask, Granted, Apply, Release}
 use Rattle.update_records.specs.Entry.{Entry}
 use Rattle.update_records.specs.declared.update.Update.{Update}
+use Rattle.update_records.specs.Grammar.{last_place}
 use Rattle.gum_core.specs.declared.decision.Decision.{Decision}
 use Rattle.gum_core.specs.declared.decision.Decision.TheVariants as decision
 use Rattle.gum_core.specs.declared.lock.Lock.{Lock}
 use Rattle.gum_core.specs.Updating.{CoreState, greatest_of}
-use Rattle.update_records.specs.Grammar.{last_place}
 use Rattle.gum_core.specs.Updating as updating
 use Rattle.view_reconcile.specs.Joining.{ReconcileState}
 use Rattle.view_reconcile.specs.Joining as joining
 use Rattle.cluster_rules.specs.Machines.{Machine, IsMachine}
-use Rattle.gum_messages.specs.declared.body.Body.TheVariants.{Ask, Granted, Apply, Release}
 use Rattle.cluster_rules.specs.declared.effect.Effect.TheVariants.{Send}
 use Rattle.cluster_rules.specs.declared.effect.Effect.{Effect}
 use Rattle.cluster_rules.specs.declared.effect.HaltCause.TheVariants as halt
@@ -27,6 +25,8 @@ use Rattle.cluster_rules.specs.Updates.{Logged, Written, answers, entry_for, has
 use Rattle.cluster_rules.specs.Receiving.{receive, tick}
 use Rattle.cluster_rules.specs.Worlds.{Deliver, Log, Tick, World, absorb, append, happens, logs, put}
 use Rattle.cluster_rules.specs.Progress.{Leads, Runs, goes_on, queue_at}
+use Rattle.cluster_laws.proofs.Guards.{both, eq_is, eq_not, le_is, lt_is, lt_not}
+use Rattle.cluster_laws.proofs.Growth.{length_snoc}
 use Rattle.cluster_laws.proofs.Inv.{Has, NodeOk, OwnerOk, Stands, at_head, greatest_asked}
 use Rattle.cluster_laws.proofs.Applying.{done_at, eq_true, length_some, state_of}
 use Rattle.cluster_laws.proofs.HeadRules.{open_is_ready}
