@@ -68,6 +68,6 @@ MayEnd showlog (statuses.BadLog place) v w = HoldsBadLog v place
 MayEnd showlog (statuses.Fenced held) v w = HoldsGreater v held
 MayEnd asked status v w = ⊥
 
--- The words that are no command have the one status Usage.
+-- Whatever the words ask for, the run ends as that may end.
 unfoldable pub Ends : List (List ℕ) → Status → Outside → Outside → Type 0
 Ends words status v w = (asked : Asked) → Asks words asked → MayEnd asked status v w
