@@ -5,5 +5,8 @@
 mod laws;
 mod replicated;
 
-pub use laws::{registry_is_kept, registry_is_safe, registry_is_steady, registry_is_the_fold};
+pub use laws::{
+    registry_is_answered, registry_is_kept, registry_is_recovered, registry_is_safe,
+    registry_is_steady, registry_is_the_fold,
+};
 pub use replicated::ReplicatedRegistry;

@@ -6,7 +6,7 @@ use Rattle.registry_defs.specs.Applying.{update_applied, records_applied}
 use Rattle.registry_defs.specs.Keys.{Keys, root_alone}
 use Rattle.cluster_rules.specs.Machines.{replay}
 use Rattle.registry_machine.specs.Machine.{ReplicatedRegistry, record_applied, registry_machine}
-use Rattle.registry_machine.specs.Laws.{ReplayIsFold}
+use Rattle.registry_machine.specs.Laws.{OutcomeIsOfFold, ReplayIsFold}
 
 abbrev made : ℕ → Keys → ReplicatedRegistry
 made cap keys = record { cap = cap; keys = keys }
@@ -23,3 +23,7 @@ fold_from cap place (e ∷ es) (suc count) keys stand =
 
 pub replay_is_fold : ReplayIsFold
 replay_is_fold cap order count places = fold_from cap 1 order count root_alone (λ n e got. let is = places (suc n) e got in omega (arith, is))
+
+pub outcome_is_of_fold : OutcomeIsOfFold
+unfolding record_applied
+outcome_is_of_fold cap order count e places = ap (λ (r : ReplicatedRegistry). (record_applied e r).1) (replay_is_fold cap order count places)

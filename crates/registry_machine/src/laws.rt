@@ -1,7 +1,8 @@
 //! What follows from the definitions, each law as the contract of a function that does nothing.
 
 ghost use Rattle.cluster_rules.specs.Machines.{IsMachine};
-ghost use Rattle.registry_machine.specs.Laws.{AppliesAsMachine, BeginsAsMachine, EncodesAsMachine, EncodingIsBytes, FailsAsMachine, OrderKeeps, ReadsAsMachine, ReplayIsFold};
+ghost use Rattle.registry_machine.specs.Laws.{AppliesAsMachine, BeginsAsMachine, EncodesAsMachine, FailsAsMachine, ReadsAsMachine};
+ghost use Rattle.registry_machine.specs.Laws.{EncodingIsBytes, OrderKeeps, OutcomeIsOfFold, ReplayIsFold};
 ghost use Rattle.registry_machine.specs.Machine.{registry_machine};
 
 /// The registry is such a machine as the protocol replicates.
@@ -15,9 +16,10 @@ pub fn order_keeps_the_limits()
     ensures bytes { EncodingIsBytes }
 {}
 
-/// Records at their places make the registry that the update order makes by the definitions.
+/// Records at their places make the registry that the update order makes by the definitions, and come to the same.
 pub fn replay_is_the_fold()
-    ensures { ReplayIsFold }
+    ensures registry { ReplayIsFold }
+    ensures outcome { OutcomeIsOfFold }
 {}
 
 /// What the calls of `Registry` and of `StateBuild` make is what the machine says.
