@@ -1,8 +1,7 @@
 -- Where a message is delivered or a node ticks nothing is taken back.
-use Rattle.std.proofs.Common.{◌≡◌, ◌≢◌, ◌⊎◌, inl, inr, ⊎_elim, ℕ, zero, suc, ◌+◌, ◌-◌, ◌<◌, ◌≤◌, Bool, true, false, not, ◌&&◌, List, [], ◌∷◌, ◌++◌, length, take, drop, Option, Some, None, nat_eq, nat_lt, unwrap_or, if◌then◌else◌, slice_get, slice_set, refl, sym, ap, ◌∙◌, subst, arith}
+use Rattle.std.proofs.Common.{◌≡◌, ◌⊎◌, inl, inr, ⊎_elim, ℕ, zero, suc, ◌+◌, ◌-◌, ◌<◌, ◌≤◌, Bool, true, false, not, ◌&&◌, List, [], ◌∷◌, ◌++◌, length, take, drop, Option, Some, None, nat_eq, nat_lt, unwrap_or, if◌then◌else◌, slice_get, slice_set, refl, sym, ap, ◌∙◌, subst, arith, take-add, take_all}
 use Rattle.std.proofs.lemmas.List.{append-nil}
-use Rattle.std.proofs.Common.{take-add, take_all}
-use Rattle.gum_messages.specs.Members.{inc_of, index_of}
+use Rattle.gum_messages.specs.Members.{index_of}
 use Rattle.gum_messages.specs.Places.{at_place}
 use Rattle.gum_messages.specs.Messages.{Sent}
 use Rattle.gum_messages.specs.declared.body.Body.{Body}
@@ -21,16 +20,15 @@ use Rattle.view_reconcile.specs.declared.step.Step.{Step}
 use Rattle.view_reconcile.specs.Joining.{ReconcileState}
 use Rattle.view_reconcile.specs.Joining as joining
 use Rattle.view_reconcile.proofs.Cases.{becomes_ready_cases, offered_cases, opened_cases, pulled_cases, readied_cases}
-use Rattle.cluster_rules.specs.declared.effect.HaltCause.TheVariants as halt
+use Rattle.cluster_rules.specs.Progress.{PullsOn, Monotone, goes_on}
 use Rattle.cluster_rules.specs.declared.offering.Offering.{Offering}
 use Rattle.cluster_rules.specs.Machines.{Machine, IsMachine, registry_at}
-use Rattle.cluster_rules.specs.Nodes.{NodeState, Out, Replica, done_of, halts, locker_at, members_of, nothing, number_of, place_of, tells}
-use Rattle.cluster_rules.specs.Updates.{InDoubt, Logged, Unwritten, Written, answers, applied, applies, begins, entry_for, has_logged, on_applied, on_apply, on_ask, on_granted, on_release, opens, proceeds, replica_after, unlogged, without_head}
+use Rattle.cluster_rules.specs.Nodes.{NodeState, Out, Replica, done_of, locker_at, nothing, number_of, place_of, tells}
+use Rattle.cluster_rules.specs.Updates.{InDoubt, Logged, Unwritten, Written, answers, applied, applies, begins, entry_for, has_logged, on_applied, on_apply, on_ask, on_granted, on_release, opens, proceeds, replica_after, without_head}
 use Rattle.cluster_rules.specs.Joins.{follows, gathers, joined, known_done, marks_ready, on_need, on_offer, on_open_view, on_piece, on_ready, piece, says_ready, sends_piece, with_replica}
 use Rattle.cluster_rules.specs.Receiving as receiving
 use Rattle.cluster_rules.specs.Receiving.{receive, tick}
 use Rattle.cluster_rules.specs.Worlds.{Checkpoint, Clock, Declare, Deliver, Die, DieInDeliver, DieInInstall, Event, Install, Read, Start, Submit, Tick, World, absorb, deliver, happens, logs, opening, put, run}
-use Rattle.cluster_rules.specs.Progress.{Advances, Monotone, goes_on}
 use Rattle.cluster_laws.proofs.Inv.{MsgOk, NodeOk, state_bytes}
 use Rattle.cluster_laws.proofs.Applying.{and_true, eq_true, locker_not, lt_true, not_true}
 use Rattle.cluster_laws.proofs.Cores.{Measured}
@@ -66,16 +64,16 @@ module _ {M : Machine} where
   record Goes (x y : NodeState M) : Type 0 where
     view : y.join.view ≡ x.join.view
     records : done_of x ≤ done_of y
-    pulled : (got : ℕ) → joining.pulled_bytes x.join ≡ Some got → (joining.is_ready y.join ≡ true) ⊎ ((more : List ℕ) × (joining.pulled_bytes y.join ≡ Some (got + length more)) × (y.bytes ≡ x.bytes ++ more))
+    pulled : (got : ℕ) → joining.pulled_bytes x.join ≡ Some got → (joining.is_ready y.join ≡ true) ⊎ PullsOn x y got
     ready : joining.is_ready x.join ≡ true → joining.is_ready y.join ≡ true
     marks : (m : ℕ) → joining.is_marked x.join m ≡ true → joining.is_marked y.join m ≡ true
     opened : joining.is_open x.join ≡ true → joining.is_open y.join ≡ true
     finished : x.core.passed ≤ y.core.passed
 
-  abbrev Onward : ℕ → NodeState M → Option (NodeState M) → Type 0
-  Onward held x o = ((y : NodeState M) × (o ≡ Some y) × Goes x y) ⊎ ((o ≡ None) × (number_of x < held))
+  abbrev Proceeds : ℕ → NodeState M → Option (NodeState M) → Type 0
+  Proceeds held x o = ((y : NodeState M) × (o ≡ Some y) × Goes x y) ⊎ ((o ≡ None) × (number_of x < held))
 
-  on_as : (held : ℕ) (x y : NodeState M) → Goes x y → Onward held x (Some y)
+  on_as : (held : ℕ) (x y : NodeState M) → Goes x y → Proceeds held x (Some y)
   on_as held x y g = inl (y, refl, g)
 
   -- the joining is as before
@@ -83,17 +81,17 @@ module _ {M : Machine} where
   same_join x y j b d p = record {
     view = ap (λ (t : ReconcileState). t.view) j;
     records = d;
-    pulled = λ got e. inr ([], ap joining.pulled_bytes j ∙ e ∙ ap (λ (k : ℕ). Some k) (omega arith), b ∙ sym (append-nil x.bytes));
+    pulled = λ got e. inr (record { more = []; count = ap joining.pulled_bytes j ∙ e ∙ ap (λ (k : ℕ). Some k) (omega arith); bytes = b ∙ sym (append-nil x.bytes) });
     ready = λ r. ap joining.is_ready j ∙ r;
     marks = λ m r. ap (λ (t : ReconcileState). joining.is_marked t m) j ∙ r;
     opened = λ r. ap joining.is_open j ∙ r;
     finished = p;
   }
 
-  same_on : (held : ℕ) (x y : NodeState M) → y.join ≡ x.join → y.bytes ≡ x.bytes → done_of x ≤ done_of y → x.core.passed ≤ y.core.passed → Onward held x (Some y)
+  same_on : (held : ℕ) (x y : NodeState M) → y.join ≡ x.join → y.bytes ≡ x.bytes → done_of x ≤ done_of y → x.core.passed ≤ y.core.passed → Proceeds held x (Some y)
   same_on held x y j b d p = on_as held x y (same_join x y j b d p)
 
-  stays_on : (held : ℕ) (x : NodeState M) → Onward held x (Some x)
+  stays_on : (held : ℕ) (x : NodeState M) → Proceeds held x (Some x)
   stays_on held x = same_on held x x refl refl (omega arith) (omega arith)
 
   done_grows : (e : Entry) (x : NodeState M) → done_of x ≤ done_of (applied e x)
@@ -115,51 +113,51 @@ module _ {M : Machine} where
     finished = p;
   }
 
-  taken_on : (held : ℕ) (x z : NodeState M) (c : ℕ) (last : Option Entry) → joining.is_ready x.join ≡ false → done_of x ≤ done_of z → x.core.passed ≤ z.core.passed → Onward held x (Some (joined z c last (joining.taken (record x.join { stage = stage.Taking }) true).0))
-  taken_on held x z c last nr d p = becomes_ready_cases (λ (r : ReconcileState × Step). Onward held x (Some (joined z c last r.0))) (record x.join { stage = stage.Taking })
+  taken_on : (held : ℕ) (x z : NodeState M) (c : ℕ) (last : Option Entry) → joining.is_ready x.join ≡ false → done_of x ≤ done_of z → x.core.passed ≤ z.core.passed → Proceeds held x (Some (joined z c last (joining.taken (record x.join { stage = stage.Taking }) true).0))
+  taken_on held x z c last nr d p = becomes_ready_cases (λ (r : ReconcileState × Step). Proceeds held x (Some (joined z c last r.0))) (record x.join { stage = stage.Taking })
       (λ a. on_as held x (joined z c last (record x.join { stage = stage.Open })) (ready_goes x (joined z c last (record x.join { stage = stage.Open })) stage.Open nr refl refl d p))
       (λ a. on_as held x (joined z c last (record x.join { stage = stage.Ready })) (ready_goes x (joined z c last (record x.join { stage = stage.Ready })) stage.Ready nr refl refl d p))
 
   -- Global update
-  proceeds_on : (held : ℕ) (x : NodeState M) (e : Entry) (place at : ℕ) → Onward held x (proceeds x e (updating.spread x.core place at)).node
-  proceeds_on held x e place at = spread_cases (λ (t : CoreState × Decision). Onward held x (proceeds x e t).node) x.core place at
+  proceeds_on : (held : ℕ) (x : NodeState M) (e : Entry) (place at : ℕ) → Proceeds held x (proceeds x e (updating.spread x.core place at)).node
+  proceeds_on held x e place at = spread_cases (λ (t : CoreState × Decision). Proceeds held x (proceeds x e t).node) x.core place at
       (λ none. same_on held x (without_head x (updating.finished x.core place).0) refl refl (omega arith) (omega arith))
       (λ to there. same_on held x (record x { core = record x.core { spreading = Some (record { place = place; at = at }) }; spreads = Some e }) refl refl (omega arith) (omega arith))
 
-  granted_on : (held : ℕ) (x : NodeState M) (e : Entry) → Onward held x (on_granted x e).node
-  granted_on held x e = granted_cases (λ (t : CoreState × Decision). Onward held x (proceeds x e t).node) x.core e.id.req e.place
+  granted_on : (held : ℕ) (x : NodeState M) (e : Entry) → Proceeds held x (on_granted x e).node
+  granted_on held x e = granted_cases (λ (t : CoreState × Decision). Proceeds held x (proceeds x e t).node) x.core e.id.req e.place
       (stays_on held x) (λ a b c d. proceeds_on held x e e.place 0) (λ a b c. stays_on held x)
 
-  applied_on : (held : ℕ) (x : NodeState M) (from place : ℕ) → Onward held x (on_applied x from place).node
-  applied_on held x from place = option_cases (λ (o : Out M). Onward held x o.node) x.spreads (nothing x) (λ e. proceeds x e (updating.applied x.core from place))
+  applied_on : (held : ℕ) (x : NodeState M) (from place : ℕ) → Proceeds held x (on_applied x from place).node
+  applied_on held x from place = option_cases (λ (o : Out M). Proceeds held x o.node) x.spreads (nothing x) (λ e. proceeds x e (updating.applied x.core from place))
       (λ none. stays_on held x)
-      (λ e has. applied_cases (λ (t : CoreState × Decision). Onward held x (proceeds x e t).node) x.core from place (stays_on held x) (λ s a b c. proceeds_on held x e place (s.at + 1)))
+      (λ e has. applied_cases (λ (t : CoreState × Decision). Proceeds held x (proceeds x e t).node) x.core from place (stays_on held x) (λ s a b c. proceeds_on held x e place (s.at + 1)))
 
-  apply_on : (held : ℕ) (x : NodeState M) (from : ℕ) (e : Entry) → Onward held x (on_apply x from e).node
-  apply_on held x from e = if_cases (λ (o : Out M). Onward held x o.node) (joining.is_ready x.join && not (joining.locks x.join)) _ _
-      (λ g. applying_cases (λ (d : Decision). Onward held x (applies x from e d).node) (done_of x) e.place (λ a. same_on held x (applied e x) refl refl (done_grows e x) (omega arith)) (λ a. stays_on held x) (λ a. stays_on held x))
+  apply_on : (held : ℕ) (x : NodeState M) (from : ℕ) (e : Entry) → Proceeds held x (on_apply x from e).node
+  apply_on held x from e = if_cases (λ (o : Out M). Proceeds held x o.node) (joining.is_ready x.join && not (joining.locks x.join)) _ _
+      (λ g. applying_cases (λ (d : Decision). Proceeds held x (applies x from e d).node) (done_of x) e.place (λ a. same_on held x (applied e x) refl refl (done_grows e x) (omega arith)) (λ a. stays_on held x) (λ a. stays_on held x))
       (λ g. stays_on held x)
 
   -- the one rule that may stop a node: its view has lost the log
-  ask_on : (held : ℕ) (x : NodeState M) (from q : ℕ) (u : Update) → Onward held x (on_ask x from q u held Written).out.node
-  ask_on held x from q u = asked_cases (λ (d : Decision). Onward held x (answers x u held Written d).out.node) x.core from q (done_of x)
+  ask_on : (held : ℕ) (x : NodeState M) (from q : ℕ) (u : Update) → Proceeds held x (on_ask x from q u held Written).out.node
+  ask_on held x from q u = asked_cases (λ (d : Decision). Proceeds held x (answers x u held Written d).out.node) x.core from q (done_of x)
       (stays_on held x)
-      (λ a b c d e. if_cases (λ (l : Logged M). Onward held x l.out.node) (nat_lt (number_of x) held) _ _
+      (λ a b c d e. if_cases (λ (l : Logged M). Proceeds held x l.out.node) (nat_lt (number_of x) held) _ _
       (λ f. inr (refl, lt_true (number_of x) held f))
       (λ f. same_on held x (has_logged x (entry_for x from q u)) refl refl (done_grows (entry_for x from q u) x) (omega arith)))
-      (λ a b l c d e. option_cases (λ (o : Out M). Onward held x o.node) x.last (nothing x) (λ t. tells x from (Granted t)) (λ none. stays_on held x) (λ t some. stays_on held x))
+      (λ a b l c d e. option_cases (λ (o : Out M). Proceeds held x o.node) x.last (nothing x) (λ t. tells x from (Granted t)) (λ none. stays_on held x) (λ t some. stays_on held x))
 
-  release_on : (held : ℕ) (x : NodeState M) (from q : ℕ) → Onward held x (on_release x from q).node
-  release_on held x from q = released_cases (λ (r : CoreState × Decision). Onward held x (Some (record x { core = r.0 }))) x.core from q (stays_on held x) (λ a l b c d. same_on held x (record x { core = record x.core { lock = None } }) refl refl (omega arith) (omega arith))
+  release_on : (held : ℕ) (x : NodeState M) (from q : ℕ) → Proceeds held x (on_release x from q).node
+  release_on held x from q = released_cases (λ (r : CoreState × Decision). Proceeds held x (Some (record x { core = r.0 }))) x.core from q (stays_on held x) (λ a l b c d. same_on held x (record x { core = record x.core { lock = None } }) refl refl (omega arith) (omega arith))
 
   -- Joining
-  begins_on : (held : ℕ) (x z : NodeState M) → ((y : NodeState M) → y.join ≡ z.join → done_of y ≡ done_of z → z.core.passed ≤ y.core.passed → Goes x y) → Onward held x (begins z (updating.opened z.core z.settled)).node
-  begins_on held x z f = core_opened_cases (λ (t : CoreState × Decision). Onward held x (begins z t).node) z.core z.settled
+  begins_on : (held : ℕ) (x z : NodeState M) → ((y : NodeState M) → y.join ≡ z.join → done_of y ≡ done_of z → z.core.passed ≤ y.core.passed → Goes x y) → Proceeds held x (begins z (updating.opened z.core z.settled)).node
+  begins_on held x z f = core_opened_cases (λ (t : CoreState × Decision). Proceeds held x (begins z t).node) z.core z.settled
       (λ e. on_as held x (record z { core = record z.core { is_open = true } }) (f (record z { core = record z.core { is_open = true } }) refl refl (omega arith)))
       (λ some none. on_as held x (record z { core = record z.core { is_open = true } }) (f (record z { core = record z.core { is_open = true } }) refl refl (omega arith)))
       (λ some k set_. on_as held x (without_head z (updating.finished (record z.core { is_open = true }) k).0) (f (without_head z (updating.finished (record z.core { is_open = true }) k).0) refl refl (omega arith)))
 
-  pulls_on : (held : ℕ) (x : NodeState M) (o : Offering) → Measured x → joining.is_ready x.join ≡ false → joining.locks x.join ≡ false → Onward held x (follows x o (joining.pulls_on x.join)).node
+  pulls_on : (held : ℕ) (x : NodeState M) (o : Offering) → Measured x → joining.is_ready x.join ≡ false → joining.locks x.join ≡ false → Proceeds held x (follows x o (joining.pulls_on x.join)).node
   pulls_on held x o me nr nl =
       let got : ℕ = unwrap_or (joining.pulled_bytes x.join) 0 in
       let t : ReconcileState = (joining.pulls_on x.join).0 in
@@ -168,19 +166,19 @@ module _ {M : Machine} where
       let goes : (y : NodeState M) → y.join ≡ t → y.core ≡ x.core → done_of y ≡ done_of x → ((g : ℕ) → joining.pulled_bytes x.join ≡ Some g → y.bytes ≡ x.bytes ++ []) → Goes x y = λ y yj yc yd yb. record {
         view = ap (λ (s : ReconcileState). s.view) yj;
         records = omega (arith, yd);
-        pulled = λ g e. inr ([], ap joining.pulled_bytes yj ∙ tb ∙ ap (λ (k : ℕ). Some k) (bytes_is g e ∙ omega arith), yb g e);
+        pulled = λ g e. inr (record { more = []; count = ap joining.pulled_bytes yj ∙ tb ∙ ap (λ (k : ℕ). Some k) (bytes_is g e ∙ omega arith); bytes = yb g e });
         ready = λ r. absurd (locker_not (joining.is_ready x.join) r nr);
         marks = λ m r. ap (λ (s : ReconcileState). joining.is_marked s m) yj ∙ r;
         opened = λ r. absurd (locker_not (joining.is_ready x.join) (open_is_ready x.join r) nr);
         finished = let q : y.core.passed ≡ x.core.passed = ap (λ (c : CoreState). c.passed) yc in omega (arith, q);
       } in
-      if_cases (λ (z : NodeState M). Onward held x (tells z (locker_at x) (Need got)).node) (nat_eq got 0) _ _
+      if_cases (λ (z : NodeState M). Proceeds held x (tells z (locker_at x) (Need got)).node) (nat_eq got 0) _ _
       (λ b. on_as held x (record x { join = t; offer = Some o; bytes = [] }) (goes (record x { join = t; offer = Some o; bytes = [] }) refl refl refl (λ g e. no_bytes x.bytes (me g (pulled_stage x.join g e) ∙ sym (bytes_is g e) ∙ eq_true got 0 b))))
       (λ b. on_as held x (record x { join = t }) (goes (record x { join = t }) refl refl refl (λ g e. sym (append-nil x.bytes))))
 
-  offer_on : (held : ℕ) (x : NodeState M) (from : ℕ) (o : Offering) → Measured x → Onward held x (on_offer x from o).node
+  offer_on : (held : ℕ) (x : NodeState M) (from : ℕ) (o : Offering) → Measured x → Proceeds held x (on_offer x from o).node
   offer_on held x from o me =
-      let P : Out M → Type 0 = λ a. Onward held x a.node in
+      let P : Out M → Type 0 = λ a. Proceeds held x a.node in
       if_cases P (nat_eq from (locker_at x) && not (joining.locks x.join)) _ _
       (λ g.
       let nl : joining.locks x.join ≡ false = not_true (joining.locks x.join) (and_true (nat_eq from (locker_at x)) (not (joining.locks x.join)) g).1 in
@@ -198,9 +196,9 @@ module _ {M : Machine} where
       (λ z r. pulls_on held x o me nr nl)))
       (λ g. stays_on held x)
 
-  need_on : (held : ℕ) (x : NodeState M) (from offset : ℕ) → Onward held x (on_need x from offset).node
+  need_on : (held : ℕ) (x : NodeState M) (from offset : ℕ) → Proceeds held x (on_need x from offset).node
   need_on held x from offset =
-      let P : Out M → Type 0 = λ a. Onward held x a.node in
+      let P : Out M → Type 0 = λ a. Proceeds held x a.node in
       option_cases P x.replica (nothing x) (λ r. if joining.locks x.join && not (joining.is_open x.join) then sends_piece x from (M.encode r.registry) offset else nothing x)
       (λ none. stays_on held x)
       (λ r some. if_cases P (joining.locks x.join && not (joining.is_open x.join)) _ _
@@ -224,18 +222,18 @@ module _ {M : Machine} where
       let all : x.bytes ++ bytes ≡ S = (λ i. had i ++ came i) ∙ sym (take-add offset (length bytes) S) ∙ take_all (offset + length bytes) S size in
       (λ i. M.decode (p.2 i) (all i)) ∙ law.reads_back w.log.cap (take o.count w.log.order) s.fitting.log.is_cap (all_take M.Fits o.count w.log.order s.fitting.log.records)
 
-  piece_on : IsMachine M → (w : World M) (n : ℕ) (x : NodeState M) (from total offset : ℕ) (bytes : List ℕ) → Sound w → w.nodes n ≡ Some x → MsgOk w x.join.view from n (Piece total offset bytes) → Onward w.log.held x (on_piece x total offset bytes).node
+  piece_on : IsMachine M → (w : World M) (n : ℕ) (x : NodeState M) (from total offset : ℕ) (bytes : List ℕ) → Sound w → w.nodes n ≡ Some x → MsgOk w x.join.view from n (Piece total offset bytes) → Proceeds w.log.held x (on_piece x total offset bytes).node
   piece_on law w n x from total offset bytes s at ok =
       let held : ℕ = w.log.held in
       let h : NodeOk w n x = s.inv.nodes n x at in
-      pulled_cases (λ (r : ReconcileState × Step). Onward held x (gathers x bytes r).node) x.join total offset (length bytes)
+      pulled_cases (λ (r : ReconcileState × Step). Proceeds held x (gathers x bytes r).node) x.join total offset (length bytes)
       (stays_on held x)
       (λ e lt.
       let nr : joining.is_ready x.join ≡ false = pulling_unready x.join offset e in
       on_as held x (record x { join = record x.join { stage = stage.Pulling (offset + length bytes) }; bytes = x.bytes ++ bytes }) (record {
         view = refl;
         records = omega arith;
-        pulled = λ got g. inr (bytes, ap (λ (k : ℕ). Some (k + length bytes)) (same offset got (sym e ∙ pulled_stage x.join got g)), refl);
+        pulled = λ got g. inr (record { more = bytes; count = ap (λ (k : ℕ). Some (k + length bytes)) (same offset got (sym e ∙ pulled_stage x.join got g)); bytes = refl });
         ready = λ r. absurd (locker_not (joining.is_ready x.join) r nr);
         marks = λ m r. r;
         opened = λ r. absurd (locker_not (joining.is_ready x.join) (open_is_ready x.join r) nr);
@@ -244,12 +242,12 @@ module _ {M : Machine} where
       (λ e le.
       let nr : joining.is_ready x.join ≡ false = pulling_unready x.join offset e in
       let t : ReconcileState = record x.join { stage = stage.Taking } in
-      option_cases (λ (o : Out M). Onward held x o.node) x.offer (nothing x) (λ o. elim (M.decode o.cap (x.bytes ++ bytes)) [
+      option_cases (λ (o : Out M). Proceeds held x o.node) x.offer (nothing x) (λ o. elim (M.decode o.cap (x.bytes ++ bytes)) [
         | Some registry ↦ says_ready (joined (with_replica x registry o.count) o.count o.last (joining.taken t true).0)
         | None ↦ tells (record x { join = (joining.taken t false).0; bytes = [] }) (locker_at x) (Need 0)
       ])
       (λ none. stays_on held x)
-      (λ o some. option_cases (λ (o : Out M). Onward held x o.node) (M.decode o.cap (x.bytes ++ bytes)) (tells (record x { join = (joining.taken t false).0; bytes = [] }) (locker_at x) (Need 0)) (λ registry. says_ready (joined (with_replica x registry o.count) o.count o.last (joining.taken t true).0))
+      (λ o some. option_cases (λ (o : Out M). Proceeds held x o.node) (M.decode o.cap (x.bytes ++ bytes)) (tells (record x { join = (joining.taken t false).0; bytes = [] }) (locker_at x) (Need 0)) (λ registry. says_ready (joined (with_replica x registry o.count) o.count o.last (joining.taken t true).0))
       (λ none. absurd (read (sym none ∙ whole_decodes law w n x from total offset bytes o s at ok e le some)))
       (λ registry there. taken_on held x (with_replica x registry o.count) o.count o.last nr (h.unready o.count (h.pull o some).1 nr) (omega arith))))
     where
@@ -259,8 +257,8 @@ module _ {M : Machine} where
       read : {A : Type 0} {a : A} → None ≡ Some a → ⊥
       read e = cc
 
-  ready_on : (held : ℕ) (x : NodeState M) (from : ℕ) → Onward held x (on_ready x from).node
-  ready_on held x from = readied_cases (λ (r : ReconcileState × Step). Onward held x (marks_ready x r).node) x.join from
+  ready_on : (held : ℕ) (x : NodeState M) (from : ℕ) → Proceeds held x (on_ready x from).node
+  ready_on held x from = readied_cases (λ (r : ReconcileState × Step). Proceeds held x (marks_ready x r).node) x.join from
       (λ l. stays_on held x)
       (λ l o. stays_on held x)
       (λ l o a.
@@ -277,7 +275,7 @@ module _ {M : Machine} where
       (λ l o a. on_as held x (record x { join = joining.marked x.join from }) (record {
         view = refl;
         records = omega arith;
-        pulled = λ got e. inr ([], e ∙ ap (λ (k : ℕ). Some k) (omega arith), sym (append-nil x.bytes));
+        pulled = λ got e. inr (record { more = []; count = e ∙ ap (λ (k : ℕ). Some k) (omega arith); bytes = sym (append-nil x.bytes) });
         ready = λ r. r;
         marks = marked;
         opened = λ r. r;
@@ -287,9 +285,9 @@ module _ {M : Machine} where
       marked : (m : ℕ) → joining.is_marked x.join m ≡ true → joining.is_marked (joining.marked x.join from) m ≡ true
       marked m r = mark_stays x.join.ready (index_of x.join.view.members m) (index_of x.join.view.members from) r
 
-  open_view_on : (held : ℕ) (x : NodeState M) (from : ℕ) → Onward held x (on_open_view x from).node
+  open_view_on : (held : ℕ) (x : NodeState M) (from : ℕ) → Proceeds held x (on_open_view x from).node
   open_view_on held x from =
-      let Q : Out M → Type 0 = λ o. Onward held x o.node in
+      let Q : Out M → Type 0 = λ o. Proceeds held x o.node in
       opened_cases (λ (r : ReconcileState × Bool). Q (if nat_eq from (locker_at x) && r.1 then opens (record x { join = r.0 }) else nothing x)) x.join
       (λ rd shut. if_cases Q (nat_eq from (locker_at x) && true) _ _
       (λ g. begins_on held x (record x { join = record x.join { stage = stage.Open } }) (λ y j d p. record {
@@ -304,7 +302,7 @@ module _ {M : Machine} where
       (λ g. stays_on held x))
       (if_cases Q (nat_eq from (locker_at x) && false) _ _ (λ g. absurd (let e : ◌≡◌ {A = Bool} false true = (and_true (nat_eq from (locker_at x)) false g).1 in cc)) (λ g. stays_on held x))
 
-  hears_on : IsMachine M → (w : World M) (n : ℕ) (x : NodeState M) (from : ℕ) (b : Body) → Sound w → w.nodes n ≡ Some x → MsgOk w x.join.view from n b → Onward w.log.held x (receiving.hears x from b w.log.held Written).out.node
+  hears_on : IsMachine M → (w : World M) (n : ℕ) (x : NodeState M) (from : ℕ) (b : Body) → Sound w → w.nodes n ≡ Some x → MsgOk w x.join.view from n b → Proceeds w.log.held x (receiving.hears x from b w.log.held Written).out.node
   hears_on law w n x from (Ask q u) s at ok = ask_on w.log.held x from q u
   hears_on law w n x from (Granted r) s at ok = granted_on w.log.held x r
   hears_on law w n x from (Apply r) s at ok = apply_on w.log.held x from r
@@ -316,36 +314,33 @@ module _ {M : Machine} where
   hears_on law w n x from Ready s at ok = ready_on w.log.held x from
   hears_on law w n x from OpenView s at ok = open_view_on w.log.held x from
 
-  receive_on : IsMachine M → (w : World M) (k : ℕ) (x : NodeState M) (p : Sent) → Sound w → at_place w.pool k ≡ Some p → w.nodes p.to ≡ Some x → Onward w.log.held x (receive x p w.log.held Written).out.node
-  receive_on law w k x p s some at = if_cases (λ (d : Logged M). Onward w.log.held x d.out.node) (receiving.counts x p) _ _
+  receive_on : IsMachine M → (w : World M) (k : ℕ) (x : NodeState M) (p : Sent) → Sound w → at_place w.pool k ≡ Some p → w.nodes p.to ≡ Some x → Proceeds w.log.held x (receive x p w.log.held Written).out.node
+  receive_on law w k x p s some at = if_cases (λ (d : Logged M). Proceeds w.log.held x d.out.node) (receiving.counts x p) _ _
       (λ g. hears_on law w p.to x p.from p.body s at (counted_ok w p.to x p s.inv at (s.inv.pool (k - 1) p (at_get w.pool k p some)) refl g).2)
       (λ g. stays_on w.log.held x)
 
   -- Worlds: one node moves, the others stay
-  placed : (held : ℕ) (f : ℕ → Option (NodeState M)) (m : ℕ) (z : NodeState M) (o : Option (NodeState M)) → f m ≡ Some z → Onward held z o → (n : ℕ) (x : NodeState M) → f n ≡ Some x → Onward held x (put f m o n)
-  placed held f m z o zat on n x at = if_cases (λ (t : Option (NodeState M)). Onward held x t) (nat_eq n m) o (f n)
-      (λ q. let e : Some z ≡ Some x = sym zat ∙ ap f (sym (eq_true n m q)) ∙ at in let same : z ≡ x = cc in subst (λ (t : NodeState M). Onward held t o) same on)
+  placed : (held : ℕ) (f : ℕ → Option (NodeState M)) (m : ℕ) (z : NodeState M) (o : Option (NodeState M)) → f m ≡ Some z → Proceeds held z o → (n : ℕ) (x : NodeState M) → f n ≡ Some x → Proceeds held x (put f m o n)
+  placed held f m z o zat on n x at = if_cases (λ (t : Option (NodeState M)). Proceeds held x t) (nat_eq n m) o (f n)
+      (λ q. let e : Some z ≡ Some x = sym zat ∙ ap f (sym (eq_true n m q)) ∙ at in let same : z ≡ x = cc in subst (λ (t : NodeState M). Proceeds held t o) same on)
       (λ q. inl (x, at, same_join x x refl refl (omega arith) (omega arith)))
 
   -- what doesn't move: the requests, and how often nodes were started
-  record Onwards (w : World M) (n : ℕ) (x : NodeState M) (u : World M) : Type 0 where
-    node : Onward w.log.held x (u.nodes n)
+  record Proceeded (w : World M) (n : ℕ) (x : NodeState M) (u : World M) : Type 0 where
+    node : Proceeds w.log.held x (u.nodes n)
     requests : u.requests ≡ w.requests
     starts : u.starts ≡ w.starts
 
-  event_on : IsMachine M → (w : World M) (e : Event) (n : ℕ) (x : NodeState M) → Sound w → goes_on e ≡ true → w.nodes n ≡ Some x → Onwards w n x (happens w e)
+  event_on : IsMachine M → (w : World M) (e : Event) (n : ℕ) (x : NodeState M) → Sound w → goes_on e ≡ true → w.nodes n ≡ Some x → Proceeded w n x (happens w e)
   event_on law w e n x s g at = by e g
     where
-      still : Onwards w n x w
+      still : Proceeded w n x w
       still = record { node = inl (x, at, same_join x x refl refl (omega arith) (omega arith)); requests = refl; starts = refl }
 
-      P : World M → Type 0
-      P u = Onwards w n x u
-
-      by : (e : Event) → goes_on e ≡ true → Onwards w n x (happens w e)
-      by (Tick m) g = at_keeps (λ (u : World M). Onwards w n x u) w m (λ x. absorb m (tick x) w) still (λ z zat. record { node = placed w.log.held w.nodes m z (Some z) zat (stays_on w.log.held z) n x at; requests = refl; starts = refl })
-      by (Deliver k Written) g = option_cases (λ (u : World M). Onwards w n x u) (at_place w.pool k) w (λ p. deliver w p Written) (λ none. still)
-          (λ p some. option_cases (λ (u : World M). Onwards w n x u) (w.nodes p.to) w (λ x. absorb p.to (receive x p w.log.held Written).out (logs (number_of x) (receive x p w.log.held Written) w)) (λ none. still)
+      by : (e : Event) → goes_on e ≡ true → Proceeded w n x (happens w e)
+      by (Tick m) g = at_keeps (λ (u : World M). Proceeded w n x u) w m (λ x. absorb m (tick x) w) still (λ z zat. record { node = placed w.log.held w.nodes m z (Some z) zat (stays_on w.log.held z) n x at; requests = refl; starts = refl })
+      by (Deliver k Written) g = option_cases (λ (u : World M). Proceeded w n x u) (at_place w.pool k) w (λ p. deliver w p Written) (λ none. still)
+          (λ p some. option_cases (λ (u : World M). Proceeded w n x u) (w.nodes p.to) w (λ x. absorb p.to (receive x p w.log.held Written).out (logs (number_of x) (receive x p w.log.held Written) w)) (λ none. still)
           (λ z zat. record { node = placed w.log.held w.nodes p.to z (receive z p w.log.held Written).out.node zat (receive_on law w k z p s some zat) n x at; requests = refl; starts = refl }))
       by (Deliver k InDoubt) g = absurd (cc)
       by (Deliver k Unwritten) g = absurd (cc)
@@ -362,7 +357,7 @@ module _ {M : Machine} where
 
   sound_monotone : IsMachine M → (w : World M) → Sound w → Monotone w
   sound_monotone law w s e n x g at =
-      let o : Onwards w n x (happens w e) = event_on law w e n x s g at in
+      let o : Proceeded w n x (happens w e) = event_on law w e n x s g at in
       let t : Sound (happens w e) = sound_keeps law w e s in
       ⊎_elim
       (λ (a : (y : NodeState M) × ((happens w e).nodes n ≡ Some y) × Goes x y).

@@ -1,29 +1,32 @@
 -- What each core keeps besides: the requests that it counts as logged stand in the order, and whom it awaits is there.
 use Rattle.std.proofs.lemmas.List.{length-append}
-use Rattle.std.proofs.Common.{unwrap_or}
-use Rattle.gum_core.proofs.Logging.{greatest_kept}
-use Rattle.gum_messages.proofs.Placing.{place_new}
-use Rattle.gum_core.proofs.Logging.{greatest_logged}
-use Rattle.cluster_laws.proofs.Applying.{eq_true}
-use Rattle.gum_core.specs.Updating.{receiver}
-use Rattle.std.proofs.Common.{◌^◌, ◌≡◌, ◌≢◌, ⊎_elim, ℕ, ◌+◌, ◌<◌, ◌≤◌, Bool, true, false, not, ◌&&◌, List, [], ◌∷◌, ◌++◌, length, Option, Some, None, nat_eq, nat_lt, if◌then◌else◌, refl, sym, ap, ◌∙◌, subst, arith}
+use Rattle.std.proofs.Common.{unwrap_or, ◌^◌, ◌≡◌, ◌≢◌, ⊎_elim, ℕ, ◌+◌, ◌<◌, ◌≤◌, Bool, true, false, not, ◌&&◌, List, [], ◌∷◌, ◌++◌, length, Option, Some, None, nat_eq, nat_lt, if◌then◌else◌, refl, sym, ap, ◌∙◌, subst, arith}
+use Rattle.gum_messages.proofs.Placing.{place_new, place_old}
 use Rattle.gum_messages.specs.declared.view.View.{View}
-use Rattle.gum_messages.specs.Members.{is_locker, is_member}
+use Rattle.gum_messages.specs.Members.{is_locker, inc_of}
 use Rattle.gum_messages.proofs.Branches.{if_cases, option_cases}
+use Rattle.gum_messages.specs.declared.body.Body.{Body}
+use Rattle.gum_messages.specs.Messages.{Sent}
+use Rattle.gum_messages.specs.declared.body.Body.TheVariants.{Ask, Granted, Apply, Applied, Release, Offer, Need, Piece, Ready, OpenView}
+use Rattle.gum_messages.specs.declared.member.Member.{Member}
+use Rattle.gum_messages.specs.Places.{at_place}
 use Rattle.update_records.specs.Entry.{Entry}
 use Rattle.update_records.specs.declared.update.Update.{Update}
+use Rattle.gum_core.proofs.Logging.{greatest_kept, greatest_logged, greatest_entered}
+use Rattle.gum_core.specs.Updating.{receiver, CoreState, greatest_of}
 use Rattle.gum_core.specs.declared.decision.Decision.{Decision}
-use Rattle.gum_core.specs.Updating.{CoreState, greatest_of}
 use Rattle.gum_core.specs.Updating as updating
+use Rattle.gum_core.proofs.Cases.{applied_cases, applying_cases, asked_cases, granted_cases, spread_cases, released_cases}
+use Rattle.gum_core.proofs.Cases.{opened_cases as core_opened_cases}
+use Rattle.gum_core.specs.declared.spreading.Spreading.{Spreading}
 use Rattle.view_reconcile.specs.declared.stage.Stage.{Stage}
 use Rattle.view_reconcile.specs.declared.stage.Stage.TheVariants as stage
 use Rattle.view_reconcile.specs.declared.step.Step.{Step}
 use Rattle.view_reconcile.specs.Joining.{ReconcileState}
 use Rattle.view_reconcile.specs.Joining as joining
+use Rattle.view_reconcile.proofs.Cases.{becomes_ready_cases, offered_cases, opened_cases, pulled_cases, readied_cases}
+use Rattle.view_reconcile.specs.Chains.{view_in}
 use Rattle.cluster_rules.specs.Machines.{Machine, registry_at}
-use Rattle.gum_messages.specs.declared.body.Body.{Body}
-use Rattle.gum_messages.specs.Messages.{Sent}
-use Rattle.gum_messages.specs.declared.body.Body.TheVariants.{Ask, Granted, Apply, Applied, Release, Offer, Need, Piece, Ready, OpenView}
 use Rattle.cluster_rules.specs.declared.offering.Offering.{Offering}
 use Rattle.cluster_rules.specs.declared.effect.HaltCause.{HaltCause}
 use Rattle.cluster_rules.specs.declared.effect.HaltCause.TheVariants as halt
@@ -32,32 +35,16 @@ use Rattle.cluster_rules.specs.Updates.{Answer, InDoubt, Logged, Unwritten, Writ
 use Rattle.cluster_rules.specs.Joins.{done_within, entered, follows, gathers, goes_on, hears_itself, joined, known_done, last_of, marks_ready, on_need, on_offer, on_open_view, on_piece, on_ready, piece, recovers, says_ready, sends_piece, takes_view, with_replica}
 use Rattle.cluster_rules.specs.Receiving.{checkpoint, clock, receive, tick}
 use Rattle.cluster_rules.specs.Receiving as receiving
-use Rattle.cluster_rules.specs.Worlds.{Opening, Recovered, Refused, World, absorb, claimed, found_log, install, opening, put, raise, with_log, Checkpoint, Clock, Declare, Deliver, Die, DieInDeliver, DieInInstall, Event, Install, Log, Read, Start, Submit, Tick, append, at_node, deliver, die_in_deliver, die_in_install, happens, leave, logs, may_declare, noted, opens_log, reads, run, stopped, written}
-use Rattle.cluster_laws.proofs.Guards.{both, eq_is, eq_not, le_is, lt_is, lt_not, or_either, or_left, or_right}
-use Rattle.cluster_laws.proofs.Applying.{lt_false}
+use Rattle.cluster_rules.specs.Worlds.{Opening, Recovered, Refused, World, absorb, claimed, found_log, install, opening, put, raise, with_log, Checkpoint, Clock, Declare, Deliver, Die, DieInDeliver, DieInInstall, Event, Install, Log, Read, Start, Submit, Tick, append, deliver, die_in_deliver, die_in_install, happens, leave, logs, may_declare, noted, opens_log, reads, stopped, written}
+use Rattle.cluster_laws.proofs.Applying.{eq_true, and_true, locker_not, lt_true}
 use Rattle.cluster_laws.proofs.Moves.{put_cases}
-use Rattle.cluster_laws.proofs.Inv.{Has, Invariant, NodeOk, Owner, OwnerOk, Stands}
+use Rattle.cluster_laws.proofs.Inv.{Has, Invariant, NodeOk, OwnerOk, Stands}
 use Rattle.cluster_laws.proofs.HeadRules.{open_is_ready}
-use Rattle.gum_core.proofs.Logging.{greatest_entered}
-use Rattle.cluster_laws.proofs.Orders.{Extends, Grew, GrewLog, append_grew, found_grew, happens_step, leave_grew, log_same, raise_grew}
+use Rattle.cluster_laws.proofs.Orders.{Extends, GrewLog, append_grew, found_grew, leave_grew, log_same, raise_grew}
 use Rattle.cluster_laws.proofs.Events.{at_keeps}
 use Rattle.cluster_laws.proofs.Starting.{started_world}
-use Rattle.cluster_laws.proofs.Applying.{and_true, locker_not, lt_true, not_true}
-use Rattle.gum_core.proofs.Cases.{applied_cases, applying_cases, asked_cases, granted_cases, spread_cases}
-use Rattle.gum_core.proofs.Cases.{opened_cases as core_opened_cases}
-use Rattle.view_reconcile.proofs.Cases.{becomes_ready_cases, offered_cases, opened_cases, pulled_cases, readied_cases}
 use Rattle.cluster_laws.proofs.Recovering.{entered_is, taken_view}
 use Rattle.cluster_laws.proofs.Offering.{has_bytes, place_is}
-
-
-use Rattle.gum_core.specs.declared.spreading.Spreading.{Spreading}
-use Rattle.gum_core.specs.declared.lock.Lock.{Lock}
-use Rattle.gum_core.proofs.Cases.{released_cases}
-use Rattle.gum_messages.specs.declared.member.Member.{Member}
-use Rattle.gum_messages.specs.Members.{inc_of}
-use Rattle.gum_messages.specs.Places.{at_place}
-use Rattle.view_reconcile.specs.Chains.{view_in}
-use Rattle.gum_messages.proofs.Placing.{place_old}
 
 -- What each core keeps besides: a request that it counts as logged stands in the order, and whom it awaits is there
 pub record CoreOk (l : Log) (c : CoreState) : Type 0 where
@@ -70,9 +57,11 @@ new_core l e n c m req place h pl ent has lm = record {
   greatest = λ k lt g. elim (nat_eq k m) as (λ (b : Bool). nat_eq k m ≡ b → (r : Entry) × Stands (append (Some e) n l) r × Has r k (inc_of c.members k) (greatest_of (updating.logged c m req place).0 k)) [
     | true ↦ λ same.
         let km : k ≡ m = eq_true k m same in
-        let gr : greatest_of (updating.logged c m req place).0 k ≡ req = ap (λ (a : ℕ). greatest_of (updating.logged c m req place).0 a) km ∙ greatest_logged c m req place ent lm in
-        (e, record { at = ap (λ (a : ℕ). at_place (l.order ++ e ∷ []) a) pl ∙ place_new l.order e },
-        record { node = has.node ∙ sym km; inc = has.inc ∙ ap (λ (a : ℕ). inc_of c.members a) (sym km); req = has.req ∙ sym gr })
+        let gr : greatest_of (updating.logged c m req place).0 k ≡ req = ap (λ (a : ℕ). greatest_of (updating.logged c m req place).0 a) km ∙ greatest_logged c m req place ent lm in (
+          e,
+          record { at = ap (λ (a : ℕ). at_place (l.order ++ e ∷ []) a) pl ∙ place_new l.order e },
+          record { node = has.node ∙ sym km; inc = has.inc ∙ ap (λ (a : ℕ). inc_of c.members a) (sym km); req = has.req ∙ sym gr },
+        )
     | false ↦ λ other.
         let apart : k ≢ m = eq_false k m other in
         let gr : greatest_of (updating.logged c m req place).0 k ≡ greatest_of c k = greatest_kept c m req place k lt apart in
@@ -274,7 +263,6 @@ module _ {M : Machine} where
       (λ rd shut. if_cases Q (nat_eq from (locker_at x) && true) _ _ (λ g. begins_stays l (record x { join = record x.join { stage = stage.Open } }) (kc.0, λ got e. absurd (cc))) (λ g. stays_as l x kc))
       (if_cases Q (nat_eq from (locker_at x) && false) _ _ (λ g. begins_stays l x kc) (λ g. stays_as l x kc))
 
-
   hears_stays : (w : World M) (n : ℕ) (x : NodeState M) (from : ℕ) (b : Body) (answer : Answer) → Invariant w → w.nodes n ≡ Some x → 0 < inc_of x.join.view.members from → Counted w.log x → Left w.log (number_of x) (receiving.hears x from b w.log.held answer)
   hears_stays w n x from (Ask q u) answer j at pos k = ask_stays w n x from q u answer j at pos k
   hears_stays w n x from (Granted e) answer j at pos k = granted_stays w.log x e k
@@ -379,8 +367,8 @@ module _ {M : Machine} where
   cores_keep w (Deliver k answer) j h = option_cases (λ (u : World M). Cores u) (at_place w.pool k) w (λ p. deliver w p answer) (λ none. h)
       (λ p some. option_cases (λ (u : World M). Cores u) (w.nodes p.to) w (λ x. absorb p.to (receive x p w.log.held answer).out (logs (number_of x) (receive x p w.log.held answer) w)) (λ none. h)
       (λ x at. cores_put w (absorb p.to (receive x p w.log.held answer).out (logs (number_of x) (receive x p w.log.held answer) w)) p.to (receive x p w.log.held answer).out.node h
-          (leave_grew w.log (append (receive x p w.log.held answer).appended (number_of x) w.log) (receive x p w.log.held answer).doubtful (number_of x) (append_grew w.log (receive x p w.log.held answer).appended (number_of x)))
-          refl (receive_stays w p.to x p answer j at (h p.to x at))))
+      (leave_grew w.log (append (receive x p w.log.held answer).appended (number_of x) w.log) (receive x p w.log.held answer).doubtful (number_of x) (append_grew w.log (receive x p w.log.held answer).appended (number_of x)))
+      refl (receive_stays w p.to x p answer j at (h p.to x at))))
   cores_keep w (Submit n u valid) j h = at_keeps (λ (v : World M). Cores v) w n (λ x. absorb n (submit x u) (noted n x u w)) h (λ x at.
       let nn = noted_nodes w n x u in
       cores_put w (absorb n (submit x u) (noted n x u w)) n (submit x u).node h (subst (λ (l : Log). GrewLog w.log l) (sym nn.1) (log_same w.log)) (ap (λ (f : ℕ → Option (NodeState M)). put f n (submit x u).node) nn.0) (submit_stays (noted n x u w).log x u (subst (λ (l : Log). Counted l x) (sym nn.1) (h n x at))))

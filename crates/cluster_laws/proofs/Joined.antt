@@ -1,83 +1,56 @@
 -- Who counts as ready is ready: what lockers count, and what messages say of it.
-use Rattle.std.proofs.Common.{unwrap_or}
-use Rattle.std.proofs.Common.{◌^◌, ◌≡◌, ◌≢◌, ⊎_elim, ℕ, ◌+◌, ◌<◌, ◌≤◌, Bool, true, false, not, ◌&&◌, List, [], ◌∷◌, ◌++◌, length, Option, Some, None, nat_eq, nat_lt, if◌then◌else◌, refl, sym, ap, ◌∙◌, subst, arith}
+use Rattle.std.proofs.Common.{unwrap_or, ◌^◌, ◌≡◌, ◌≢◌, ⊎_elim, ℕ, ◌+◌, ◌<◌, ◌≤◌, Bool, true, false, not, ◌&&◌, List, [], ◌∷◌, ◌++◌, length, Option, Some, None, nat_eq, nat_lt, if◌then◌else◌, refl, sym, ap, ◌∙◌, subst, arith, ◌||◌, ◌⊎◌, inl, inr, zero, suc, slice_get, replicate, length-set, append_assoc, ◌-◌}
+use Rattle.std.proofs.lemmas.List.{length-replicate}
+use Rattle.std.specs.List.{list_all}
 use Rattle.gum_messages.specs.declared.view.View.{View}
-use Rattle.gum_messages.specs.Members.{is_locker, is_member}
+use Rattle.gum_messages.specs.Members.{is_locker, is_member, inc_of, index_of, spread_of}
 use Rattle.gum_messages.proofs.Branches.{if_cases, option_cases}
+use Rattle.gum_messages.specs.declared.body.Body.{Body}
+use Rattle.gum_messages.specs.Messages.{Sent}
+use Rattle.gum_messages.specs.declared.body.Body.TheVariants.{Ask, Granted, Apply, Applied, Release, Offer, Need, Piece, Ready, OpenView}
+use Rattle.gum_messages.specs.declared.member.Member.{Member}
+use Rattle.gum_messages.specs.Places.{at_place}
+use Rattle.gum_messages.proofs.Placing.{place_old}
+use Rattle.gum_messages.specs.Views.{Ascend}
 use Rattle.update_records.specs.Entry.{Entry}
 use Rattle.update_records.specs.declared.update.Update.{Update}
 use Rattle.gum_core.specs.declared.decision.Decision.{Decision}
 use Rattle.gum_core.specs.Updating.{CoreState, greatest_of}
 use Rattle.gum_core.specs.Updating as updating
+use Rattle.gum_core.proofs.Cases.{applied_cases, applying_cases, asked_cases, granted_cases, spread_cases}
+use Rattle.gum_core.proofs.Cases.{opened_cases as core_opened_cases}
+use Rattle.gum_core.specs.declared.decision.Decision.TheVariants as decision
 use Rattle.view_reconcile.specs.declared.stage.Stage.{Stage}
 use Rattle.view_reconcile.specs.declared.stage.Stage.TheVariants as stage
 use Rattle.view_reconcile.specs.declared.step.Step.{Step}
 use Rattle.view_reconcile.specs.Joining.{ReconcileState}
 use Rattle.view_reconcile.specs.Joining as joining
+use Rattle.view_reconcile.proofs.Cases.{becomes_ready_cases, offered_cases, opened_cases, pulled_cases, readied_cases}
+use Rattle.view_reconcile.specs.Chains.{view_in}
+use Rattle.view_reconcile.specs.declared.step.Step.TheVariants as step
+use Rattle.view_reconcile.proofs.Marking.{each_counts, marked_says, none_marked}
 use Rattle.cluster_rules.specs.Machines.{Machine, registry_at}
-use Rattle.gum_messages.specs.declared.body.Body.{Body}
-use Rattle.gum_messages.specs.Messages.{Sent}
-use Rattle.gum_messages.specs.declared.body.Body.TheVariants.{Ask, Granted, Apply, Applied, Release, Offer, Need, Piece, Ready, OpenView}
 use Rattle.cluster_rules.specs.declared.offering.Offering.{Offering}
 use Rattle.cluster_rules.specs.declared.effect.HaltCause.{HaltCause}
 use Rattle.cluster_rules.specs.declared.effect.HaltCause.TheVariants as halt
-use Rattle.cluster_rules.specs.Nodes.{NodeState, fresh, members_of, Out, done_of, halts, locker_at, nothing, number_of, place_of, tells}
-use Rattle.cluster_rules.specs.Updates.{Answer, asked_for, InDoubt, Logged, Unwritten, Written, answers, applied, applies, begins, entry_for, has_logged, may_submit, on_applied, on_apply, on_ask, on_granted, opens, proceeds, submit, unlogged, without_head}
-use Rattle.cluster_rules.specs.Joins.{done_within, entered, follows, gathers, goes_on, hears_itself, joined, known_done, last_of, marks_ready, on_need, on_offer, on_open_view, on_piece, on_ready, piece, recovers, says_ready, sends_piece, takes_view, with_replica}
+use Rattle.cluster_rules.specs.Nodes.{NodeState, fresh, members_of, Out, done_of, halts, locker_at, nothing, number_of, place_of, tells, acknowledges, after, asks, becomes, packet, to_each}
+use Rattle.cluster_rules.specs.Updates.{Answer, asked_for, InDoubt, Logged, Unwritten, Written, answers, applied, applies, begins, entry_for, has_logged, may_submit, on_applied, on_apply, on_ask, on_granted, opens, proceeds, submit, unlogged, without_head, tick_head, tick_lock}
+use Rattle.cluster_rules.specs.Joins.{done_within, entered, follows, gathers, goes_on, hears_itself, joined, known_done, last_of, marks_ready, on_need, on_offer, on_open_view, on_piece, on_ready, piece, recovers, says_ready, sends_piece, takes_view, with_replica, offer_each, offered_cap, tick_join}
 use Rattle.cluster_rules.specs.Receiving.{checkpoint, clock, receive, tick}
 use Rattle.cluster_rules.specs.Receiving as receiving
-use Rattle.cluster_rules.specs.Worlds.{Opening, Recovered, Refused, World, absorb, claimed, found_log, install, opening, put, raise, with_log, Checkpoint, Clock, Declare, Deliver, Die, DieInDeliver, DieInInstall, Event, Install, Log, Read, Start, Submit, Tick, append, at_node, deliver, die_in_deliver, die_in_install, happens, leave, logs, may_declare, noted, opens_log, reads, run, stopped, written}
-use Rattle.cluster_laws.proofs.Guards.{both, eq_is, eq_not, le_is, lt_is, lt_not, or_either, or_left, or_right}
-use Rattle.cluster_laws.proofs.Applying.{lt_false}
-use Rattle.cluster_laws.proofs.Moves.{put_cases}
-use Rattle.cluster_laws.proofs.Inv.{Has, Invariant, NodeOk, Owner, OwnerOk, Stands}
-use Rattle.cluster_laws.proofs.HeadRules.{open_is_ready}
-use Rattle.gum_core.proofs.Logging.{greatest_entered}
-use Rattle.cluster_laws.proofs.Orders.{Extends, Grew, GrewLog, append_grew, found_grew, happens_step, leave_grew, log_same, raise_grew}
-use Rattle.cluster_laws.proofs.Events.{at_get, at_keeps}
-use Rattle.cluster_laws.proofs.Starting.{started_world}
-use Rattle.cluster_laws.proofs.Applying.{and_true, locker_not, lt_true, not_true}
-use Rattle.gum_core.proofs.Cases.{applied_cases, applying_cases, asked_cases, granted_cases, spread_cases}
-use Rattle.gum_core.proofs.Cases.{opened_cases as core_opened_cases}
-use Rattle.view_reconcile.proofs.Cases.{becomes_ready_cases, offered_cases, opened_cases, pulled_cases, readied_cases}
-use Rattle.cluster_laws.proofs.Recovering.{entered_is, taken_view}
-use Rattle.cluster_laws.proofs.Offering.{place_is}
-
-
-use Rattle.gum_core.specs.declared.spreading.Spreading.{Spreading}
-use Rattle.gum_core.specs.declared.lock.Lock.{Lock}
-use Rattle.gum_core.proofs.Cases.{released_cases}
-use Rattle.gum_messages.specs.declared.member.Member.{Member}
-use Rattle.gum_messages.specs.Members.{inc_of}
-use Rattle.gum_messages.specs.Places.{at_place}
-use Rattle.view_reconcile.specs.Chains.{view_in}
-use Rattle.gum_messages.proofs.Placing.{place_old}
-
-
-use Rattle.std.proofs.Common.{◌||◌, ◌⊎◌, inl, inr, zero, suc, slice_get, slice_set, replicate, nat_le}
-use Rattle.std.proofs.lemmas.List.{length-replicate}
-use Rattle.std.proofs.Common.{length-set, append_assoc}
-use Rattle.gum_messages.specs.Members.{index_of}
-use Rattle.std.specs.List.{list_all}
-use Rattle.gum_messages.specs.Views.{Ascend}
-use Rattle.gum_messages.proofs.Placing.{get_within}
+use Rattle.cluster_rules.specs.Worlds.{Opening, Recovered, Refused, World, absorb, claimed, found_log, install, opening, put, raise, with_log, Checkpoint, Clock, Declare, Deliver, Die, DieInDeliver, DieInInstall, Event, Install, Read, Start, Submit, Tick, deliver, die_in_deliver, die_in_install, happens, leave, logs, may_declare, noted, reads, stopped, written, sent}
 use Rattle.cluster_rules.specs.declared.effect.Effect.TheVariants.{Acked, Batched, Closed, Halted, Opened, Reply, Send}
 use Rattle.cluster_rules.specs.declared.effect.Effect.{Effect}
-use Rattle.cluster_rules.specs.Nodes.{acknowledges, after, asks, becomes, packet, to_each}
-use Rattle.cluster_rules.specs.Joins.{opens_view}
-use Rattle.gum_messages.specs.Members.{locker_of, spread_of}
-use Rattle.cluster_rules.specs.Worlds.{sent}
-use Rattle.cluster_laws.proofs.Applying.{eq_true}
-use Rattle.cluster_laws.proofs.Moves.{slice_get_append}
-use Rattle.std.proofs.Common.{◌-◌}
-use Rattle.cluster_rules.specs.Machines.{IsMachine}
-use Rattle.gum_core.specs.declared.decision.Decision.TheVariants as decision
-use Rattle.view_reconcile.specs.declared.step.Step.TheVariants as step
-use Rattle.cluster_rules.specs.Updates.{tick_head, tick_lock}
-use Rattle.cluster_rules.specs.Joins.{offer_each, offered_cap, tick_join}
-use Rattle.cluster_laws.proofs.Offering.{pulling_unready, taken_ready}
+use Rattle.cluster_laws.proofs.Guards.{or_either}
+use Rattle.cluster_laws.proofs.Moves.{put_cases, slice_get_append}
+use Rattle.cluster_laws.proofs.Inv.{Invariant, NodeOk}
+use Rattle.cluster_laws.proofs.HeadRules.{open_is_ready}
+use Rattle.cluster_laws.proofs.Events.{at_get, at_keeps}
+use Rattle.cluster_laws.proofs.Starting.{started_world}
+use Rattle.cluster_laws.proofs.Applying.{and_true, locker_not, lt_true, not_true, eq_true}
+use Rattle.cluster_laws.proofs.Recovering.{entered_is, taken_view}
+use Rattle.cluster_laws.proofs.Offering.{place_is, pulling_unready, taken_ready}
 use Rattle.cluster_laws.proofs.Opening.{sent_append}
-use Rattle.view_reconcile.proofs.Marking.{each_counts, marked_says, none_marked}
 
 abbrev Quiet : List Effect → Type 0
 Quiet es = (k : ℕ) (p : Sent) → slice_get (sent es) k ≡ Some p → (p.body ≡ Ready → ⊥) × (p.body ≡ OpenView → ⊥)
@@ -228,9 +201,9 @@ module _ {M : Machine} where
       } in
       let here : (y : NodeState M) → o ≡ Some y → u.nodes n ≡ Some y = λ y q. (λ k. e k n) ∙ self_put n o ∙ q in
       let all : (y : NodeState M) → o ≡ Some y → (m : ℕ) → joining.locks y.join ≡ true → joining.is_open y.join ≡ true → 0 < inc_of y.join.view.members m → Readied u m (inc_of y.join.view.members m) y.join.view.number = λ y q m lk op lt. ⊎_elim
-          (λ (c : m ≡ n). subst (λ (a : ℕ). Readied u a (inc_of y.join.view.members a) y.join.view.number) (sym c) (self y q (open_is_ready y.join op) (inc_of y.join.view.members n) (let h : NodeOk u n y = inv.nodes n y (here y q) in let a : inc_of y.join.view.members n ≡ y.join.inc = (h.view (h.ready_view (open_is_ready y.join op))).1 in let b : y.join.inc ≡ u.starts n = h.inc in omega (arith, a, b))))
-          (λ (c : Readied w m (inc_of y.join.view.members m) y.join.view.number). R m (inc_of y.join.view.members m) y.join.view.number c)
-          ((f y q).opened m lk op lt) in
+      (λ (c : m ≡ n). subst (λ (a : ℕ). Readied u a (inc_of y.join.view.members a) y.join.view.number) (sym c) (self y q (open_is_ready y.join op) (inc_of y.join.view.members n) (let h : NodeOk u n y = inv.nodes n y (here y q) in let a : inc_of y.join.view.members n ≡ y.join.inc = (h.view (h.ready_view (open_is_ready y.join op))).1 in let b : y.join.inc ≡ u.starts n = h.inc in omega (arith, a, b))))
+      (λ (c : Readied w m (inc_of y.join.view.members m) y.join.view.number). R m (inc_of y.join.view.members m) y.join.view.number c)
+      ((f y q).opened m lk op lt) in
       record {
         entries = λ m z zat. ⊎_elim (λ (c : (m ≡ n) × (o ≡ Some z)). (f z c.1).entries) (λ (c : (m ≢ n) × (w.nodes m ≡ Some z)). j.entries m z c.1) (put_cases w.nodes n o m z ((λ k. sym e k m) ∙ zat));
         closed = λ m z zat. ⊎_elim (λ (c : (m ≡ n) × (o ≡ Some z)). (f z c.1).closed) (λ (c : (m ≢ n) × (w.nodes m ≡ Some z)). j.closed m z c.1) (put_cases w.nodes n o m z ((λ k. sym e k m) ∙ zat));
@@ -275,8 +248,9 @@ module _ {M : Machine} where
   fine_halts : (w : World M) (n : ℕ) (x : NodeState M) (c : HaltCause) → Fine w n x (halts c)
   fine_halts w n x c = record { good = λ z e. absurd (cc); stop = λ e. refl }
 
-  good_same : (w : World M) (n : ℕ) (x : NodeState M) (es : List Effect) → Joined w → w.nodes n ≡ Some x → Quiet es → Good w n x.join x.join es
-  good_same w n x es j at q = record {
+  -- the joining is as before
+  good_told : (w : World M) (n : ℕ) (x : NodeState M) (es : List Effect) → Joined w → w.nodes n ≡ Some x → ((k : ℕ) (p : Sent) → slice_get (sent es) k ≡ Some p → p.body ≡ Ready → (p.from ≡ n) × (p.view ≡ x.join.view.number) × (joining.is_ready x.join ≡ true)) → ((k : ℕ) (p : Sent) → slice_get (sent es) k ≡ Some p → p.body ≡ OpenView → (p.view ≡ x.join.view.number) × (joining.locks x.join ≡ true) × (joining.is_open x.join ≡ true)) → Good w n x.join x.join es
+  good_told w n x es j at readies opens = record {
     inc = refl;
     up = omega arith;
     stays = λ a b. b;
@@ -284,9 +258,12 @@ module _ {M : Machine} where
     closed = j.closed n x at;
     marked = λ m lt mk. j.marked n x m at lt mk;
     opened = λ m lk op lt. inr (j.opened n x m at lk op lt);
-    readies = λ k p e b. absurd ((q k p e).0 b);
-    opens = λ k p e b. absurd ((q k p e).1 b);
+    readies = readies;
+    opens = opens;
   }
+
+  good_same : (w : World M) (n : ℕ) (x : NodeState M) (es : List Effect) → Joined w → w.nodes n ≡ Some x → Quiet es → Good w n x.join x.join es
+  good_same w n x es j at q = good_told w n x es j at (λ k p e b. absurd ((q k p e).0 b)) (λ k p e b. absurd ((q k p e).1 b))
 
   -- a rule that leaves the joining as it is
   record Plain (x : NodeState M) (o : Out M) : Type 0 where
@@ -456,9 +433,9 @@ module _ {M : Machine} where
   ready_fine : (w : World M) (n : ℕ) (x : NodeState M) (from : ℕ) → Invariant w → Joined w → w.nodes n ≡ Some x → 0 < inc_of x.join.view.members from → Readied w from (inc_of x.join.view.members from) x.join.view.number → Fine w n x (on_ready x from)
   ready_fine w n x from inv j at pos rf =
       let mk : (m : ℕ) → 0 < inc_of x.join.view.members m → joining.is_marked (joining.marked x.join from) m ≡ true → Readied w m (inc_of x.join.view.members m) x.join.view.number = λ m lt e. ⊎_elim
-          (λ (c : m ≡ from). subst (λ (a : ℕ). Readied w a (inc_of x.join.view.members a) x.join.view.number) (sym c) rf)
-          (λ (c : joining.is_marked x.join m ≡ true). j.marked n x m at lt c)
-          (marked_says x.join from m lt e) in
+      (λ (c : m ≡ from). subst (λ (a : ℕ). Readied w a (inc_of x.join.view.members a) x.join.view.number) (sym c) rf)
+      (λ (c : joining.is_marked x.join m ≡ true). j.marked n x m at lt c)
+      (marked_says x.join from m lt e) in
       let en : length (joining.marked x.join from).ready ≡ length x.join.view.members = length-set x.join.ready (index_of x.join.view.members from) true ∙ j.entries n x at in
       readied_cases (λ (r : ReconcileState × Step). Fine w n x (marks_ready x r)) x.join from
       (λ l. plain_fine w n x (nothing x) j at (plain_as x x [] refl refl))
@@ -499,17 +476,7 @@ module _ {M : Machine} where
       }))
     where
       again : joining.locks x.join ≡ true → joining.is_open x.join ≡ true → Fine w n x (tells x from OpenView)
-      again l o = fine_as w n x x (Send (packet x from OpenView) ∷ []) (record {
-        inc = refl;
-        up = omega arith;
-        stays = λ a b. b;
-        entries = j.entries n x at;
-        closed = j.closed n x at;
-        marked = λ m lt mk. j.marked n x m at lt mk;
-        opened = λ m lk op lt. inr (j.opened n x m at lk op lt);
-        readies = λ k p e b. absurd (only k p e b);
-        opens = λ k p e b. (view k p e, l, o);
-      })
+      again l o = fine_as w n x x (Send (packet x from OpenView) ∷ []) (good_told w n x (Send (packet x from OpenView) ∷ []) j at (λ k p e b. absurd (only k p e b)) (λ k p e b. (view k p e, l, o)))
         where
           only : (k : ℕ) (p : Sent) → slice_get (packet x from OpenView ∷ []) k ≡ Some p → p.body ≡ Ready → ⊥
           only zero p e b = let q : packet x from OpenView ≡ p = cc in let c : OpenView ≡ Ready = ap (λ (t : Sent). t.body) q ∙ b in cc
@@ -589,20 +556,12 @@ module _ {M : Machine} where
       let cs : C ≡ Send p0 ∷ [] = ap (λ (s : Step). tick_join x s) c in
       let calm_ab : Quiet (A ++ B) = calm_quiet (A ++ B) (calm_append A B (head_calm x (updating.ticked x.core)) (lock_calm x)) in
       let part : (k : ℕ) (p : Sent) → slice_get (sent (A ++ (B ++ C))) k ≡ Some p → ((a : ℕ) × (slice_get (sent (A ++ B)) a ≡ Some p)) ⊎ ((a : ℕ) × (slice_get (p0 ∷ []) a ≡ Some p)) = λ k p e. ⊎_elim
-          (λ (h : slice_get (sent (A ++ B)) k ≡ Some p). inl (k, h))
-          (λ (h : (a : ℕ) × (slice_get (sent C) a ≡ Some p)). inr (h.0, ap (λ (l : List Effect). slice_get (sent l) h.0) (sym cs) ∙ h.1))
-          (slice_get_append (sent (A ++ B)) (sent C) k p (ap (λ (l : List Sent). slice_get l k) (sym (sent_append (A ++ B) C)) ∙ ap (λ (l : List Effect). slice_get (sent l) k) (append_assoc A B C) ∙ e)) in
-      fine_as w n x x (A ++ (B ++ C)) (record {
-        inc = refl;
-        up = omega arith;
-        stays = λ a b. b;
-        entries = j.entries n x at;
-        closed = j.closed n x at;
-        marked = λ m lt mk. j.marked n x m at lt mk;
-        opened = λ m lk op lt. inr (j.opened n x m at lk op lt);
-        readies = λ k p e b. ⊎_elim (λ (h : (a : ℕ) × (slice_get (sent (A ++ B)) a ≡ Some p)). absurd ((calm_ab h.0 p h.1).0 b)) (λ (h : (a : ℕ) × (slice_get (p0 ∷ []) a ≡ Some p)). (ap (λ (t : Sent). t.from) (sym (one p0 p h.0 h.1)) ∙ (inv.nodes n x at).node, ap (λ (t : Sent). t.view) (sym (one p0 p h.0 h.1)), rd)) (part k p e);
-        opens = λ k p e b. ⊎_elim (λ (h : (a : ℕ) × (slice_get (sent (A ++ B)) a ≡ Some p)). absurd ((calm_ab h.0 p h.1).1 b)) (λ (h : (a : ℕ) × (slice_get (p0 ∷ []) a ≡ Some p)). absurd (let c : Ready ≡ OpenView = ap (λ (t : Sent). t.body) (one p0 p h.0 h.1) ∙ b in cc)) (part k p e);
-      }))
+      (λ (h : slice_get (sent (A ++ B)) k ≡ Some p). inl (k, h))
+      (λ (h : (a : ℕ) × (slice_get (sent C) a ≡ Some p)). inr (h.0, ap (λ (l : List Effect). slice_get (sent l) h.0) (sym cs) ∙ h.1))
+      (slice_get_append (sent (A ++ B)) (sent C) k p (ap (λ (l : List Sent). slice_get l k) (sym (sent_append (A ++ B) C)) ∙ ap (λ (l : List Effect). slice_get (sent l) k) (append_assoc A B C) ∙ e)) in
+      fine_as w n x x (A ++ (B ++ C)) (good_told w n x (A ++ (B ++ C)) j at
+      (λ k p e b. ⊎_elim (λ (h : (a : ℕ) × (slice_get (sent (A ++ B)) a ≡ Some p)). absurd ((calm_ab h.0 p h.1).0 b)) (λ (h : (a : ℕ) × (slice_get (p0 ∷ []) a ≡ Some p)). (ap (λ (t : Sent). t.from) (sym (one p0 p h.0 h.1)) ∙ (inv.nodes n x at).node, ap (λ (t : Sent). t.view) (sym (one p0 p h.0 h.1)), rd)) (part k p e))
+      (λ k p e b. ⊎_elim (λ (h : (a : ℕ) × (slice_get (sent (A ++ B)) a ≡ Some p)). absurd ((calm_ab h.0 p h.1).1 b)) (λ (h : (a : ℕ) × (slice_get (p0 ∷ []) a ≡ Some p)). absurd (let c : Ready ≡ OpenView = ap (λ (t : Sent). t.body) (one p0 p h.0 h.1) ∙ b in cc)) (part k p e))))
       (join_calm x (joining.ticked x.join))
     where
       one : (q p : Sent) (k : ℕ) → slice_get (q ∷ []) k ≡ Some p → q ≡ p
@@ -721,9 +680,9 @@ module _ {M : Machine} where
             (cs m z zat);
       })
       (λ m z zat. ⊎_elim
-          (λ (c : (m ≡ n) × (Some (fresh M n (w.starts n + 1)) ≡ Some z)). let q : fresh M n (w.starts n + 1) ≡ z = let r : Some (fresh M n (w.starts n + 1)) ≡ Some z = c.1 in cc in inr (ap (λ (t : NodeState M). t.join.view.number) (sym q), ap (λ (t : NodeState M). t.join.view.members) (sym q), ap (λ (t : NodeState M). t.join.ready) (sym q)))
-          (λ (c : (m ≢ n) × (w.nodes m ≡ Some z)). inl c.1)
-          (cs m z zat))
+      (λ (c : (m ≡ n) × (Some (fresh M n (w.starts n + 1)) ≡ Some z)). let q : fresh M n (w.starts n + 1) ≡ z = let r : Some (fresh M n (w.starts n + 1)) ≡ Some z = c.1 in cc in inr (ap (λ (t : NodeState M). t.join.view.number) (sym q), ap (λ (t : NodeState M). t.join.view.members) (sym q), ap (λ (t : NodeState M). t.join.ready) (sym q)))
+      (λ (c : (m ≢ n) × (w.nodes m ≡ Some z)). inl c.1)
+      (cs m z zat))
       refl (λ k p V a b. b)
     where
       grows : (f : ℕ → ℕ) (n m i : ℕ) → i ≤ f m → i ≤ put f n (f n + 1) m
@@ -743,7 +702,7 @@ module _ {M : Machine} where
       (λ f i. joined_fine w (absorb n (halts (halt.Fenced w.log.held)) w) n x (halts (halt.Fenced w.log.held)) i j at refl refl refl refl (fine_halts w n x (halt.Fenced w.log.held)))
       (λ f. opened opening g up))
       (λ nl. subst (λ (y : NodeState M). P (absorb n (nothing y) w)) (sym (entered_is x v g)) (λ i. joined_fine w (absorb n (nothing (taken_view v x)) w) n x (nothing (taken_view v x)) i j at refl refl refl refl
-          (fine_as w n x (taken_view v x) [] (enter_good w n x v stage.Waiting [] inv at up (calm_quiet [] refl) (λ o. absurd (let q : ◌≡◌ {A = Bool} false true = o in cc)) (λ r. absurd (let q : ◌≡◌ {A = Bool} false true = r in cc)))))))
+      (fine_as w n x (taken_view v x) [] (enter_good w n x v stage.Waiting [] inv at up (calm_quiet [] refl) (λ o. absurd (let q : ◌≡◌ {A = Bool} false true = o in cc)) (λ r. absurd (let q : ◌≡◌ {A = Bool} false true = r in cc)))))))
       (λ g i. j)
     where
       opened : (opening : Opening) → takes_view x v ≡ true → x.join.view.number < v.number → let u : World M = elim opening [
@@ -758,20 +717,20 @@ module _ {M : Machine} where
   joined_branch w (Start n) inv j = option_cases (λ (u : World M). Invariant u → Joined u) (w.nodes n) (started_world w n) (λ x. w) (λ none i. joined_start w n j none) (λ x some i. j)
   joined_branch w (Declare v) inv j = if_cases (λ (u : World M). Invariant u → Joined u) (may_declare w v) _ _
       (λ g i. carried w (record w { chain = w.chain ++ v ∷ [] }) j (λ m a b h. record { started = h.started; here = h.here }) (λ n x at. inl at) refl (λ k p V kat vw.
-          let po = inv.pool k p kat in
-          let q : Some po.view ≡ Some V = sym (place_old w.chain v p.view po.view po.declared) ∙ vw in
-          let same : po.view ≡ V = cc in
-          po.declared ∙ ap (λ (t : View). Some t) same))
+      let po = inv.pool k p kat in
+      let q : Some po.view ≡ Some V = sym (place_old w.chain v p.view po.view po.declared) ∙ vw in
+      let same : po.view ≡ V = cc in
+      po.declared ∙ ap (λ (t : View). Some t) same))
       (λ g i. j)
   joined_branch w (Install n v opening) inv j = at_keeps (λ (u : World M). Invariant u → Joined u) w n (λ x. elim (view_in w.chain v) [ None ↦ w | Some u ↦ install w n x u opening ]) (λ i. j)
       (λ x at. option_cases (λ (u : World M). Invariant u → Joined u) (view_in w.chain v) w (λ u. install w n x u opening) (λ none i. j) (λ u some i. install_joined w n x u opening inv j at i))
   joined_branch w (Deliver k answer) inv j = option_cases (λ (u : World M). Invariant u → Joined u) (at_place w.pool k) w (λ p. deliver w p answer) (λ none i. j)
       (λ p some. option_cases (λ (u : World M). Invariant u → Joined u) (w.nodes p.to) w (λ x. absorb p.to (receive x p w.log.held answer).out (logs (number_of x) (receive x p w.log.held answer) w)) (λ none i. j)
       (λ x at i. joined_fine w (absorb p.to (receive x p w.log.held answer).out (logs (number_of x) (receive x p w.log.held answer) w)) p.to x (receive x p w.log.held answer).out i j at refl refl refl refl
-          (if_cases (λ (d : Logged M). Fine w p.to x d.out) (receiving.counts x p) _ _
-          (λ g. let a = and_true (nat_eq p.view (number_of x)) (nat_lt 0 (inc_of (members_of x) p.from)) g in
-          hears_fine w p.to x (k - 1) p answer inv j at (at_get w.pool k p some) (eq_true p.view (number_of x) a.0) (lt_true 0 (inc_of (members_of x) p.from) a.1) p.body refl)
-          (λ g. plain_fine w p.to x (nothing x) j at (plain_as x x [] refl refl)))))
+      (if_cases (λ (d : Logged M). Fine w p.to x d.out) (receiving.counts x p) _ _
+      (λ g. let a = and_true (nat_eq p.view (number_of x)) (nat_lt 0 (inc_of (members_of x) p.from)) g in
+      hears_fine w p.to x (k - 1) p answer inv j at (at_get w.pool k p some) (eq_true p.view (number_of x) a.0) (lt_true 0 (inc_of (members_of x) p.from) a.1) p.body refl)
+      (λ g. plain_fine w p.to x (nothing x) j at (plain_as x x [] refl refl)))))
   joined_branch w (Submit n u valid) inv j = at_keeps (λ (v : World M). Invariant v → Joined v) w n (λ x. absorb n (submit x u) (noted n x u w)) (λ i. j) (λ x at. if_cases (λ (v : World M). Invariant (absorb n (submit x u) v) → Joined (absorb n (submit x u) v)) (may_submit x) (record w { requests = put w.requests n (put (w.requests n) x.join.inc (w.requests n x.join.inc ++ u ∷ [])) }) w
       (λ g i. joined_fine w _ n x (submit x u) i j at refl refl refl refl (plain_fine w n x (submit x u) j at (submit_plain x u)))
       (λ g i. joined_fine w _ n x (submit x u) i j at refl refl refl refl (plain_fine w n x (submit x u) j at (submit_plain x u))))

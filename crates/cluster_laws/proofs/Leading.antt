@@ -1,32 +1,22 @@
 -- Ways that a world can go on: what a tick and a delivery make of it, where a view stands.
-use Rattle.std.proofs.Common.{◌≡◌, ◌≢◌, ◌⊎◌, inl, inr, ⊎_elim, ℕ, zero, suc, ◌+◌, ◌<◌, ◌≤◌, Bool, true, false, not, ◌&&◌, List, [], ◌∷◌, ◌++◌, length, Option, Some, None, nat_eq, nat_lt, if◌then◌else◌, slice_get, refl, sym, ap, ◌∙◌, subst, arith}
+use Rattle.std.proofs.Common.{◌≡◌, ◌≢◌, ⊎_elim, ℕ, suc, ◌<◌, ◌≤◌, Bool, true, false, ◌&&◌, List, [], ◌∷◌, ◌++◌, length, Option, Some, None, nat_eq, slice_get, refl, sym, ap, ◌∙◌, subst, arith}
 use Rattle.std.specs.List.{list_all}
-use Rattle.gum_messages.specs.declared.member.Member.{Member}
 use Rattle.gum_messages.specs.declared.view.View.{View}
 use Rattle.gum_messages.specs.Members.{inc_of}
 use Rattle.gum_messages.specs.Places.{at_place}
-use Rattle.gum_messages.proofs.Placing.{at_place-above, place_within}
 use Rattle.gum_messages.specs.Views.{IsView}
-use Rattle.gum_messages.proofs.Branches.{if_cases, option_cases}
-use Rattle.update_records.specs.Entry.{Entry}
-use Rattle.update_records.specs.declared.update.Update.{Update}
-use Rattle.gum_core.specs.declared.spreading.Spreading.{Spreading}
-use Rattle.gum_core.specs.declared.lock.Lock.{Lock}
-use Rattle.gum_core.specs.Updating.{CoreState, greatest_of, receiver}
+use Rattle.gum_messages.proofs.Branches.{if_cases}
+use Rattle.gum_messages.specs.Messages.{Sent}
 use Rattle.view_reconcile.specs.Joining.{ReconcileState}
 use Rattle.view_reconcile.specs.Joining as joining
+use Rattle.cluster_rules.specs.Nodes.{acknowledges, NodeState, Out, becomes, number_of}
 use Rattle.cluster_rules.specs.Machines.{Machine, IsMachine}
-use Rattle.gum_messages.specs.declared.body.Body.{Body}
-use Rattle.gum_messages.specs.Messages.{Sent}
 use Rattle.cluster_rules.specs.declared.effect.Effect.{Effect}
-use Rattle.cluster_rules.specs.Nodes.{NodeState, Out, becomes, members_of, number_of, packet}
 use Rattle.cluster_rules.specs.Updates.{Logged, Written, unlogged}
-use Rattle.cluster_rules.specs.Receiving.{counts, hears, receive, tick}
+use Rattle.cluster_rules.specs.Receiving.{receive, tick}
 use Rattle.cluster_rules.specs.Worlds.{Deliver, Event, Log, Tick, World, absorb, deliver, happens, logs, put, run, sent, with_log}
-use Rattle.cluster_rules.specs.Progress.{Leads, Runs, goes_on, queue_at, waiting}
-use Rattle.cluster_laws.proofs.Inv.{Has, Invariant, NodeOk, Stands}
-use Rattle.cluster_laws.proofs.Moves.{moved, put_cases, slice_get_append, slice_get_back, slice_get_front}
-use Rattle.cluster_laws.proofs.Opening.{sent_append}
+use Rattle.cluster_rules.specs.Progress.{Leads, Runs, goes_on}
+use Rattle.cluster_laws.proofs.Moves.{put_cases, slice_get_back}
 use Rattle.cluster_laws.proofs.Applying.{eq_true}
 use Rattle.cluster_laws.proofs.Orders.{run_append}
 use Rattle.cluster_laws.proofs.Sound.{Sound, sound_keeps}
@@ -69,9 +59,12 @@ module _ {M : Machine} where
       let j = slice_get_back w.pool (sent o.effects) k p e in
       held_at (absorb n o w) p j.0 j.1
 
-  -- A world in which one node became y, and the log l
+  -- A world in which one node became y, and the log l; what its client was told
+  abbrev pub turned_to : World M → Log → ℕ → NodeState M → Option M.Outcome → List Effect → World M
+  turned_to w l n y outcome es = absorb n (acknowledges y outcome es) (with_log l w)
+
   abbrev pub turned : World M → Log → ℕ → NodeState M → List Effect → World M
-  turned w l n y es = absorb n (becomes y es) (with_log l w)
+  turned w l n y es = turned_to w l n y None es
 
   pub tick_is : (w : World M) (n : ℕ) (x : NodeState M) → w.nodes n ≡ Some x → happens w (Tick n) ≡ turned w w.log n x (tick x).effects
   tick_is w n x at = ap (λ (o : Option (NodeState M)). elim o [ None ↦ w | Some x ↦ absorb n (tick x) w ]) at
@@ -116,8 +109,8 @@ module _ {M : Machine} where
     pub member : (n : ℕ) → 0 < inc_of v.members n → (x : NodeState M) × Runs w v n x
 
   -- one event that moves one node in its view, and may lengthen the log
-  stand_turned : IsMachine M → (w : World M) (v : View) (e : Event) (l : Log) (n : ℕ) (x y : NodeState M) (es : List Effect) → Stand w v → happens w e ≡ turned w l n y es → w.nodes n ≡ Some x → y.join.view ≡ x.join.view → y.join.inc ≡ x.join.inc → l.held ≡ w.log.held → Stand (turned w l n y es) v
-  stand_turned law w v e l n x y es h q at jv ji held = record {
+  stand_turned : IsMachine M → (w : World M) (v : View) (e : Event) (l : Log) (n : ℕ) (x y : NodeState M) (out : Option M.Outcome) (es : List Effect) → Stand w v → happens w e ≡ turned_to w l n y out es → w.nodes n ≡ Some x → y.join.view ≡ x.join.view → y.join.inc ≡ x.join.inc → l.held ≡ w.log.held → Stand (turned_to w l n y out es) v
+  stand_turned law w v e l n x y out es h q at jv ji held = record {
     sound = subst (λ (u : World M). Sound u) q (sound_keeps law w e h.sound);
     shape = h.shape;
     held = held ∙ h.held;
@@ -125,33 +118,39 @@ module _ {M : Machine} where
         let o = h.member m lt in
         let P : Option (NodeState M) → Type 0 = λ o. (z : NodeState M) × (o ≡ Some z) × (z.join.inc ≡ inc_of v.members m) × (z.join.view ≡ v) in
         let r : P (put w.nodes n (Some y) m) = if_cases P (nat_eq m n) _ _
-            (λ q.
-            let xs : Some o.0 ≡ Some x = sym o.1.node ∙ ap w.nodes (eq_true m n q) ∙ at in
-            let xo : o.0 ≡ x = cc in
-            (y, refl, ji ∙ ap (λ (t : NodeState M). t.join.inc) (sym xo) ∙ o.1.inc, jv ∙ ap (λ (t : NodeState M). t.join.view) (sym xo) ∙ o.1.view))
-            (λ q. (o.0, o.1.node, o.1.inc, o.1.view)) in
+        (λ q.
+        let xs : Some o.0 ≡ Some x = sym o.1.node ∙ ap w.nodes (eq_true m n q) ∙ at in
+        let xo : o.0 ≡ x = cc in
+        (y, refl, ji ∙ ap (λ (t : NodeState M). t.join.inc) (sym xo) ∙ o.1.inc, jv ∙ ap (λ (t : NodeState M). t.join.view) (sym xo) ∙ o.1.view))
+        (λ q. (o.0, o.1.node, o.1.inc, o.1.view)) in
         (r.0, record { node = r.1; inc = r.2; view = r.3 });
   }
 
   leads_turned : (w : World M) (e : Event) (u : World M) (Q : World M → Type 0) → goes_on e ≡ true → happens w e ≡ u → Leads goes_on u Q → Leads goes_on w Q
   leads_turned w e u Q g q k = leads_then goes_on w (λ (t : World M). t ≡ u) Q (leads_one w e u (λ (t : World M). t ≡ u) g q refl) (λ t r. subst (λ (t : World M). Leads goes_on t Q) (sym r) k)
 
+  pub move_to : IsMachine M → (w : World M) (v : View) (e : Event) (n : ℕ) (x y : NodeState M) (out : Option M.Outcome) (es : List Effect) (Q : World M → Type 0) → goes_on e ≡ true → Stand w v → happens w e ≡ turned_to w w.log n y out es → w.nodes n ≡ Some x → y.join.view ≡ x.join.view → y.join.inc ≡ x.join.inc → (Stand (turned_to w w.log n y out es) v → Leads goes_on (turned_to w w.log n y out es) Q) → Leads goes_on w Q
+  move_to law w v e n x y out es Q g h q at jv ji k = leads_turned w e (turned_to w w.log n y out es) Q g q (k (stand_turned law w v e w.log n x y out es h q at jv ji refl))
+
   pub move : IsMachine M → (w : World M) (v : View) (e : Event) (n : ℕ) (x y : NodeState M) (es : List Effect) (Q : World M → Type 0) → goes_on e ≡ true → Stand w v → happens w e ≡ turned w w.log n y es → w.nodes n ≡ Some x → y.join.view ≡ x.join.view → y.join.inc ≡ x.join.inc → (Stand (turned w w.log n y es) v → Leads goes_on (turned w w.log n y es) Q) → Leads goes_on w Q
-  move law w v e n x y es Q g h q at jv ji k = leads_turned w e (turned w w.log n y es) Q g q (k (stand_turned law w v e w.log n x y es h q at jv ji refl))
+  move law w v e n x y es Q g h q at jv ji k = move_to law w v e n x y None es Q g h q at jv ji k
 
   -- One that is open at each member
   pub record Live (w : World M) (v : View) : Type 0 where
     pub stand : Stand w v
     pub open_ : (n : ℕ) (x : NodeState M) → 0 < inc_of v.members n → w.nodes n ≡ Some x → joining.is_open x.join ≡ true
 
-  live_turned : IsMachine M → (w : World M) (v : View) (e : Event) (l : Log) (n : ℕ) (x y : NodeState M) (es : List Effect) → Live w v → happens w e ≡ turned w l n y es → w.nodes n ≡ Some x → y.join ≡ x.join → l.held ≡ w.log.held → Live (turned w l n y es) v
-  live_turned law w v e l n x y es h q at same held = record {
-    stand = stand_turned law w v e l n x y es h.stand q at (ap (λ (t : ReconcileState). t.view) same) (ap (λ (t : ReconcileState). t.inc) same) held;
+  live_turned : IsMachine M → (w : World M) (v : View) (e : Event) (l : Log) (n : ℕ) (x y : NodeState M) (out : Option M.Outcome) (es : List Effect) → Live w v → happens w e ≡ turned_to w l n y out es → w.nodes n ≡ Some x → y.join ≡ x.join → l.held ≡ w.log.held → Live (turned_to w l n y out es) v
+  live_turned law w v e l n x y out es h q at same held = record {
+    stand = stand_turned law w v e l n x y out es h.stand q at (ap (λ (t : ReconcileState). t.view) same) (ap (λ (t : ReconcileState). t.inc) same) held;
     open_ = λ m z lt s. ⊎_elim
         (λ (c : (m ≡ n) × (Some y ≡ Some z)). let g : y ≡ z = cc in subst (λ (t : NodeState M). joining.is_open t.join ≡ true) g (ap joining.is_open same ∙ h.open_ n x (subst (λ (a : ℕ). 0 < inc_of v.members a) c.0 lt) at))
         (λ (c : (m ≢ n) × (w.nodes m ≡ Some z)). h.open_ m z lt c.1)
         (put_cases w.nodes n (Some y) m z s);
   }
 
+  pub go_to : IsMachine M → (w : World M) (v : View) (e : Event) (l : Log) (n : ℕ) (x y : NodeState M) (out : Option M.Outcome) (es : List Effect) (Q : World M → Type 0) → goes_on e ≡ true → Live w v → happens w e ≡ turned_to w l n y out es → w.nodes n ≡ Some x → y.join ≡ x.join → l.held ≡ w.log.held → (Live (turned_to w l n y out es) v → Leads goes_on (turned_to w l n y out es) Q) → Leads goes_on w Q
+  go_to law w v e l n x y out es Q g h q at same held k = leads_turned w e (turned_to w l n y out es) Q g q (k (live_turned law w v e l n x y out es h q at same held))
+
   pub go : IsMachine M → (w : World M) (v : View) (e : Event) (l : Log) (n : ℕ) (x y : NodeState M) (es : List Effect) (Q : World M → Type 0) → goes_on e ≡ true → Live w v → happens w e ≡ turned w l n y es → w.nodes n ≡ Some x → y.join ≡ x.join → l.held ≡ w.log.held → (Live (turned w l n y es) v → Leads goes_on (turned w l n y es) Q) → Leads goes_on w Q
-  go law w v e l n x y es Q g h q at same held k = leads_turned w e (turned w l n y es) Q g q (k (live_turned law w v e l n x y es h q at same held))
+  go law w v e l n x y es Q g h q at same held k = go_to law w v e l n x y None es Q g h q at same held k

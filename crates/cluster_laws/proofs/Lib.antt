@@ -26,6 +26,9 @@ pub mod Events
 pub mod Fitting
 pub mod Theorem
 pub mod Orders
+pub mod Silent
+pub mod Answering
+pub mod Replies
 pub mod Guards
 pub mod Shapes
 pub mod Sound
@@ -39,6 +42,3 @@ pub mod Joined
 pub mod Opens
 pub mod Witness
 pub mod Advancing
-pub mod Silent
-pub mod Answering
-pub mod Replies

@@ -1,16 +1,20 @@
 -- A view whose locker is open opens at each member.
-use Rattle.std.proofs.Common.{unwrap_or}
-use Rattle.std.proofs.Common.{◌≡◌, ◌≢◌, ◌⊎◌, inl, inr, ⊎_elim, ℕ, zero, suc, ◌+◌, ◌<◌, ◌≤◌, Bool, true, false, not, ◌&&◌, List, [], ◌∷◌, ◌++◌, length, drop, Option, Some, None, nat_eq, nat_lt, if◌then◌else◌, slice_get, refl, sym, ap, ◌∙◌, subst, arith}
+use Rattle.std.proofs.Common.{unwrap_or, ◌≡◌, ◌≢◌, ◌⊎◌, inl, inr, ⊎_elim, ℕ, zero, suc, ◌+◌, ◌<◌, ◌≤◌, Bool, true, false, not, ◌&&◌, List, [], ◌∷◌, ◌++◌, length, drop, Option, Some, None, nat_eq, nat_lt, if◌then◌else◌, slice_get, refl, sym, ap, ◌∙◌, subst, arith, ◌-◌, min, take, length-take, length-drop, take-add, take_all}
+use Rattle.std.specs.List.{list_all}
+use Rattle.std.specs.Prelude.{count_by, filter}
+use Rattle.std.proofs.lemmas.List.Sums.{length-filter}
 use Rattle.gum_messages.specs.declared.member.Member.{Member}
 use Rattle.gum_messages.specs.declared.view.View.{View}
-use Rattle.gum_messages.specs.Members.{inc_of, is_locker, locker_of}
-use Rattle.gum_messages.specs.Views.{Ascend, IsView}
-use Rattle.cluster_laws.proofs.Guards.{both, eq_is, eq_not, le_is, lt_is, lt_not, or_either, or_left, or_right}
-use Rattle.cluster_laws.proofs.Applying.{lt_false}
-use Rattle.cluster_laws.proofs.Sound.{Sound}
-use Rattle.cluster_laws.proofs.Joined.{Joined}
-use Rattle.gum_messages.proofs.Branches.{if_cases, option_cases}
+use Rattle.gum_messages.specs.Members.{inc_of, is_locker, locker_of, spread_of}
+use Rattle.gum_messages.specs.Views.{Ascend}
+use Rattle.gum_messages.proofs.Branches.{if_cases}
+use Rattle.gum_messages.specs.declared.body.Body.{Body}
+use Rattle.gum_messages.specs.Messages.{Sent}
+use Rattle.gum_messages.specs.declared.body.Body.TheVariants.{OpenView, Ready, Need, Offer, Piece}
+use Rattle.gum_messages.proofs.Beside.{entry_kept, entry_set}
 use Rattle.update_records.specs.declared.update.Update.{Update}
+use Rattle.update_records.specs.Grammar.{last_place}
+use Rattle.update_records.specs.Entry.{Entry}
 use Rattle.gum_core.specs.declared.decision.Decision.{Decision}
 use Rattle.gum_core.specs.Updating.{CoreState}
 use Rattle.gum_core.specs.Updating as updating
@@ -21,51 +25,25 @@ use Rattle.view_reconcile.specs.declared.step.Step.{Step}
 use Rattle.view_reconcile.specs.declared.step.Step.TheVariants as step
 use Rattle.view_reconcile.specs.Joining.{ReconcileState}
 use Rattle.view_reconcile.specs.Joining as joining
-use Rattle.cluster_rules.specs.Machines.{Machine, IsMachine}
-use Rattle.gum_messages.specs.declared.body.Body.{Body}
-use Rattle.gum_messages.specs.Messages.{Sent}
-use Rattle.gum_messages.specs.declared.body.Body.TheVariants.{OpenView, Ready}
+use Rattle.view_reconcile.proofs.Cases.{becomes_ready_cases, offered_cases, readied_cases}
+use Rattle.cluster_rules.specs.Machines.{Machine, IsMachine, registry_at}
 use Rattle.cluster_rules.specs.declared.effect.Effect.{Effect}
 use Rattle.cluster_rules.specs.declared.effect.Effect.TheVariants.{Opened, Send}
-use Rattle.cluster_rules.specs.Nodes.{NodeState, Out, acknowledges, after, becomes, locker_at, nothing, packet, tells}
-use Rattle.cluster_rules.specs.Updates.{Logged, Written, begins, opens, tick_head, tick_lock, unlogged}
-use Rattle.cluster_rules.specs.Joins.{marks_ready, on_open_view, on_ready, tick_join}
+use Rattle.cluster_rules.specs.Nodes.{NodeState, Out, acknowledges, after, becomes, locker_at, nothing, packet, tells, Replica, done_of, members_of, place_of, to_each}
+use Rattle.cluster_rules.specs.Updates.{Written, begins, opens, tick_head, tick_lock, unlogged, applied}
+use Rattle.cluster_rules.specs.Joins.{marks_ready, on_open_view, on_ready, tick_join, follows, gathers, joined, known_done, offer_each, offered_cap, on_need, on_piece, piece, says_ready, sends_piece, takes_state, with_replica}
 use Rattle.cluster_rules.specs.Receiving.{hears, receive, tick}
 use Rattle.cluster_rules.specs.Worlds.{Deliver, Event, Log, Tick, World, absorb, happens, put, sent}
-use Rattle.cluster_rules.specs.Progress.{Leads, Runs, goes_on, queue_at}
-use Rattle.cluster_laws.proofs.Inv.{Invariant, NodeOk}
-use Rattle.cluster_laws.proofs.Lockers.{Lockers}
-use Rattle.cluster_laws.proofs.Moves.{put_cases}
-use Rattle.cluster_laws.proofs.Applying.{eq_true, lt_true}
-use Rattle.cluster_laws.proofs.Theorem.{happens_keeps, lockers_keep}
-use Rattle.update_records.specs.Grammar.{last_place}
-use Rattle.cluster_rules.specs.Progress.{Served, Standing, has_room, waiting}
-use Rattle.cluster_laws.proofs.Queues.{open_served, waiting_le}
-use Rattle.cluster_laws.proofs.Cores.{Cores, cores_keep}
-use Rattle.std.proofs.Common.{◌-◌, min, take, length-take, length-drop, nat_le}
-use Rattle.gum_messages.specs.Places.{at_place}
-use Rattle.update_records.specs.Entry.{Entry}
-use Rattle.view_reconcile.proofs.Cases.{becomes_ready_cases, offered_cases, pulled_cases}
-use Rattle.cluster_rules.specs.Machines.{registry_at}
-use Rattle.gum_messages.specs.declared.body.Body.TheVariants.{Need, Offer, Piece}
+use Rattle.cluster_rules.specs.Progress.{Leads, Runs, goes_on, queue_at, Served, has_room, waiting}
 use Rattle.cluster_rules.specs.declared.offering.Offering.{Offering}
-use Rattle.cluster_rules.specs.Nodes.{Replica, done_of, members_of, place_of}
-use Rattle.cluster_rules.specs.Updates.{applied}
-use Rattle.cluster_rules.specs.Joins.{follows, gathers, joined, known_done, offer_each, offered_cap, on_need, on_offer, on_piece, piece, says_ready, sends_piece, takes_state, with_replica}
-use Rattle.cluster_laws.proofs.Inv.{state_bytes}
-use Rattle.cluster_laws.proofs.Applying.{and_true, done_at, locker_not, state_of}
+use Rattle.cluster_laws.proofs.Propagation.{near_to, Near, near_self, above, at_back, counts_true, first_sent, locker_locks, mail, near_turned, sends, shown_at}
+use Rattle.cluster_laws.proofs.Leading.{move_to, turned_to, Held, Stand, move, leads_now, leads_then, put_self, shown, shown_same, still_is, tick_is, turned}
+use Rattle.cluster_laws.proofs.Guards.{both, eq_is, le_is, lt_is, or_either, or_left, or_right}
+use Rattle.cluster_laws.proofs.Applying.{lt_false, eq_true, lt_true, done_at, locker_not, state_of}
+use Rattle.cluster_laws.proofs.Joined.{Joined}
+use Rattle.cluster_laws.proofs.Inv.{Invariant, NodeOk, state_bytes}
+use Rattle.cluster_laws.proofs.Queues.{open_served, waiting_le}
 use Rattle.cluster_laws.proofs.Offering.{all_take, has_bytes, place_is, taken_ready}
-use Rattle.std.specs.List.{list_all}
-use Rattle.std.specs.Prelude.{count_by, filter, ◌||◌}
-use Rattle.std.proofs.lemmas.List.Sums.{length-filter}
-use Rattle.gum_messages.proofs.Beside.{entry_kept, entry_set}
-use Rattle.view_reconcile.proofs.Cases.{readied_cases}
-use Rattle.cluster_rules.specs.Joins.{opens_view}
-use Rattle.cluster_rules.specs.Nodes.{to_each}
-use Rattle.gum_messages.specs.Members.{spread_of}
-use Rattle.std.proofs.Common.{take-add, take_all}
-use Rattle.cluster_laws.proofs.Leading.{Held, Live, Stand, move, leads_now, leads_one, leads_then, put_self, queue_less, sent_held, shown, shown_same, still_is, tick_is, turned}
-use Rattle.cluster_laws.proofs.Propagation.{Near, near_self, above, at_back, counts_true, drop_less, first_sent, locker_locks, mail, mailed, near_turned, sends, shown_at}
 
 pub ready_stage : (s : ReconcileState) → joining.is_ready s ≡ true → joining.pulled_bytes s ≡ None
 ready_stage s h = by s.stage h
@@ -177,9 +155,9 @@ module _ {M : Machine} where
         let C : List Effect = tick_join x (joining.ticked x.join) in
         let p : Sent = packet x (locker_at x) Ready in
         let t : joining.ticked x.join ≡ step.Ready =
-            ap (λ (b : Bool). if b then (if nat_lt 0 (joining.awaited x.join) then step.OfferTo (joining.awaited x.join) else step.Nothing) else elim (joining.pulled_bytes x.join) [ Some got ↦ step.Pull got | None ↦ if joining.is_ready x.join && not (joining.is_open x.join) then step.Ready else step.Nothing ]) nl
-            ∙ ap (λ (o : Option ℕ). elim o [ Some got ↦ step.Pull got | None ↦ if joining.is_ready x.join && not (joining.is_open x.join) then step.Ready else step.Nothing ]) (ready_stage x.join rd)
-            ∙ ap (λ (b : Bool). if b then step.Ready else step.Nothing) (both (joining.is_ready x.join) (not (joining.is_open x.join)) rd (ap not shut)) in
+        ap (λ (b : Bool). if b then (if nat_lt 0 (joining.awaited x.join) then step.OfferTo (joining.awaited x.join) else step.Nothing) else elim (joining.pulled_bytes x.join) [ Some got ↦ step.Pull got | None ↦ if joining.is_ready x.join && not (joining.is_open x.join) then step.Ready else step.Nothing ]) nl
+        ∙ ap (λ (o : Option ℕ). elim o [ Some got ↦ step.Pull got | None ↦ if joining.is_ready x.join && not (joining.is_open x.join) then step.Ready else step.Nothing ]) (ready_stage x.join rd)
+        ∙ ap (λ (b : Bool). if b then step.Ready else step.Nothing) (both (joining.is_ready x.join) (not (joining.is_open x.join)) rd (ap not shut)) in
         let c : C ≡ Send p ∷ [] = ap (λ (s : Step). tick_join x s) t in
         let b = at_back B C p 0 (first_sent C p c) in
         at_back A (B ++ C) p b.0 b.1
@@ -222,8 +200,8 @@ module _ {M : Machine} where
         let x1 : u1.nodes L ≡ Some x = if_cases (λ (t : Option (NodeState M)). t ≡ Some x) (nat_eq L m) _ _ (λ q. absurd (apart (sym (eq_true L m q)))) (λ q. xat) in
         let es2 : List Effect = Send (packet x m OpenView) ∷ [] in
         let ra : joining.readied x.join m ≡ (x.join, step.OpenAgain m) =
-            ap (λ (b : Bool). if b then (if joining.is_open x.join then (x.join, step.OpenAgain m) else (if joining.all_ready (joining.marked x.join m) then (record (joining.marked x.join m) { stage = stage.Open }, step.Open) else (joining.marked x.join m, step.Nothing))) else (x.join, step.Nothing)) lks
-            ∙ ap (λ (b : Bool). if b then (x.join, step.OpenAgain m) else (if joining.all_ready (joining.marked x.join m) then (record (joining.marked x.join m) { stage = stage.Open }, step.Open) else (joining.marked x.join m, step.Nothing))) xop in
+        ap (λ (b : Bool). if b then (if joining.is_open x.join then (x.join, step.OpenAgain m) else (if joining.all_ready (joining.marked x.join m) then (record (joining.marked x.join m) { stage = stage.Open }, step.Open) else (joining.marked x.join m, step.Nothing))) else (x.join, step.Nothing)) lks
+        ∙ ap (λ (b : Bool). if b then (x.join, step.OpenAgain m) else (if joining.all_ready (joining.marked x.join m) then (record (joining.marked x.join m) { stage = stage.Open }, step.Open) else (joining.marked x.join m, step.Nothing))) xop in
         let u2 : World M = turned u1 u1.log L x es2 in
         move law u1 v (Deliver hd1.at Written) L x x es2 (λ u. Wider v w m u) refl h1 (still_is u1 (mail v m L Ready) x (becomes x es2) hd1 x1 (heard u1 v x m L Ready h1 lm ll x1 ∙ ap (λ (r : ReconcileState × Step). unlogged (marks_ready x r)) ra)) x1 refl refl
         (λ h2.
@@ -233,17 +211,17 @@ module _ {M : Machine} where
         let z : NodeState M = record y { join = record y.join { stage = stage.Open } } in
         let op : joining.opened y.join ≡ (record y.join { stage = stage.Open }, true) = ap (λ (b : Bool). if b then (record y.join { stage = stage.Open }, true) else (y.join, false)) (both (joining.is_ready y.join) (not (joining.is_open y.join)) rd (ap not shut)) in
         let ov : on_open_view y L ≡ opens z =
-            ap (λ (r : ReconcileState × Bool). if nat_eq L (locker_at y) && r.1 then opens (record y { join = r.0 }) else nothing y) op
-            ∙ ap (λ (b : Bool). if b then opens z else nothing y) (both (nat_eq L (locker_at y)) true (eq_is L (locker_at y) (ap (λ (t : View). locker_of t.members) (sym yr.view))) refl) in
+        ap (λ (r : ReconcileState × Bool). if nat_eq L (locker_at y) && r.1 then opens (record y { join = r.0 }) else nothing y) op
+        ∙ ap (λ (b : Bool). if b then opens z else nothing y) (both (nat_eq L (locker_at y)) true (eq_is L (locker_at y) (ap (λ (t : View). locker_of t.members) (sym yr.view))) refl) in
         let out = begins_out z (Opened z.join.view.number ∷ []) in
         let t : NodeState M = out.0 in
-        let u3 : World M = turned u2 u2.log m t out.1 in
-        move law u2 v (Deliver hd2.at Written) m y t out.1 (λ u. Wider v w m u) refl h2 (still_is u2 (mail v L m OpenView) y (acknowledges t out.2 out.1) hd2 y2 (heard u2 v y L m OpenView h2 ll lm y2 ∙ ap (λ (r : Out M). unlogged r) (ov ∙ out.3))) y2 (ap (λ (j : ReconcileState). j.view) out.4) (ap (λ (j : ReconcileState). j.inc) out.4)
+        let u3 : World M = turned_to u2 u2.log m t out.2 out.1 in
+        move_to law u2 v (Deliver hd2.at Written) m y t out.2 out.1 (λ u. Wider v w m u) refl h2 (still_is u2 (mail v L m OpenView) y (acknowledges t out.2 out.1) hd2 y2 (heard u2 v y L m OpenView h2 ll lm y2 ∙ ap (λ (r : Out M). unlogged r) (ov ∙ out.3))) y2 (ap (λ (j : ReconcileState). j.view) out.4) (ap (λ (j : ReconcileState). j.inc) out.4)
         (λ h3.
         let here : open_at u3 m ≡ true = ap (λ (o : Option (NodeState M)). shown (λ (a : NodeState M). joining.is_open a.join) false o) (put_self u2.nodes m (Some t)) ∙ ap joining.is_open out.4 in
         leads_now goes_on u3 (λ u. Wider v w m u) (record {
           stand = h3;
-          near = near_turned w u2 m y t out.1 n2 y2 out.5;
+          near = near_to w u2 m y t out.2 out.1 n2 y2 out.5;
           more = λ n e. if_cases (λ (o : Option (NodeState M)). shown (λ (a : NodeState M). joining.is_open a.join) false o ≡ true) (nat_eq n m) _ _
               (λ q. ap joining.is_open out.4)
               (λ q. shown_same (λ (a : NodeState M). joining.is_open a.join) false u1.nodes L x x x1 refl n ∙ shown_same (λ (a : NodeState M). joining.is_open a.join) false w.nodes m y y yat refl n ∙ e);
@@ -296,7 +274,7 @@ module _ {M : Machine} where
         let od : length u.log.order ≡ length w.log.order = ap (λ (g : Log). length g.order) o.near.log in
         let rm : length w.log.order + waiting w v.members ≤ last_place = room in
         open_served law v u (record { stand = o.stand; open_ = λ n x lt at. let r = member_at v.members n lt in sym (shown_at (λ (t : NodeState M). joining.is_open t.join) false u n x at) ∙ ap (λ (a : ℕ). open_at u a) (sym r.3) ∙ o.all r.0 r.1 r.2 })
-            ll (omega (arith, le, od, rm)))
+        ll (omega (arith, le, od, rm)))
 
     -- A member becomes ready: the others stay as they are, and its Ready is on its way
     pub record Told (v : View) (w0 : World M) (m : ℕ) (x : NodeState M) (u : World M) : Type 0 where
@@ -351,9 +329,9 @@ module _ {M : Machine} where
         let lks : joining.locks x.join ≡ true = ap (λ (t : View). is_locker t.members x.join.node) xr.view ∙ ap (λ (a : ℕ). is_locker v.members a) xk.node ∙ locker_locks v.members ll in
         let F : Option ℕ → Out M = λ o. elim o [ None ↦ nothing x | Some count ↦ tells x m (piece S got count) ] in
         let nd : on_need x m got ≡ tells x m (Piece total got bs) =
-            ap (λ (o : Option (Replica M)). elim o [ None ↦ nothing x | Some r ↦ if joining.locks x.join && not (joining.is_open x.join) then sends_piece x m (M.encode r.registry) got else nothing x ]) rep
-            ∙ ap (λ (b : Bool). if b then sends_piece x m S got else nothing x) (both (joining.locks x.join) (not (joining.is_open x.join)) lks (ap not shut))
-            ∙ ap (λ (b : Bool). F (if b then Some (min 4096 (total - got)) else None)) (le_is got total fit) in
+        ap (λ (o : Option (Replica M)). elim o [ None ↦ nothing x | Some r ↦ if joining.locks x.join && not (joining.is_open x.join) then sends_piece x m (M.encode r.registry) got else nothing x ]) rep
+        ∙ ap (λ (b : Bool). if b then sends_piece x m S got else nothing x) (both (joining.locks x.join) (not (joining.is_open x.join)) lks (ap not shut))
+        ∙ ap (λ (b : Bool). F (if b then Some (min 4096 (total - got)) else None)) (le_is got total fit) in
         let es1 : List Effect = Send (packet x m (Piece total got bs)) ∷ [] in
         let u1 : World M = turned w w.log L x es1 in
         move law w v (Deliver hd.at Written) L x x es1 (λ u. Told v w0 m x u) refl h (still_is w (mail v m L (Need got)) x (becomes x es1) hd xat (heard w v x m L (Need got) h lm ll xat ∙ ap (λ (o : Out M). unlogged o) nd)) xat refl refl
@@ -371,7 +349,7 @@ module _ {M : Machine} where
         let G : Option ℕ → ReconcileState × Step = λ o. elim o [ None ↦ no | Some g ↦ if nat_eq got g then (if nat_lt (g + length bs) total then (record y.join { stage = stage.Pulling (g + length bs) }, step.Pull (g + length bs)) else end_) else no ] in
         let H : Bool → ReconcileState × Step = λ b. if b then (if nat_lt (got + length bs) total then big else end_) else no in
         let hp : on_piece y total got bs ≡ gathers y bs (if nat_lt (got + length bs) total then (record y.join { stage = stage.Pulling (got + length bs) }, step.Pull (got + length bs)) else (record y.join { stage = stage.Taking }, step.Whole)) =
-            ap (λ (o : Option ℕ). gathers y bs (G o)) (pulling_at y.join got sg) ∙ ap (λ (b : Bool). gathers y bs (H b)) (eq_is got got refl) in
+        ap (λ (o : Option ℕ). gathers y bs (G o)) (pulling_at y.join got sg) ∙ ap (λ (b : Bool). gathers y bs (H b)) (eq_is got got refl) in
         let ev : happens u1 (Deliver hd1.at Written) ≡ absorb m (on_piece y total got bs) u1 = still_is u1 (mail v L m (Piece total got bs)) y (on_piece y total got bs) hd1 y1 (heard u1 v y L m (Piece total got bs) h1 ll lm y1) in
         if_cases (λ (r : ReconcileState × Step). happens u1 (Deliver hd1.at Written) ≡ absorb m (gathers y bs r) u1 → Leads goes_on u1 (λ t. Told v w0 m x t)) (nat_lt (got + length bs) total) _ _
         (λ lt ev.
@@ -381,7 +359,7 @@ module _ {M : Machine} where
         let few : got + length bs < total = lt_true (got + length bs) total lt in
         move law u1 v (Deliver hd1.at Written) m y z es2 (λ u. Told v w0 m x u) refl h1 ev y1 refl refl (λ h2.
         again u2 z (length bs) (omega (arith, size, few)) few h2 (near_turned w0 u1 m y z es2 n1 y1 (omega arith)) (put_other u1.nodes m L (Some z) x apart x1) (put_self u1.nodes m (Some z)) refl
-            (sends u1 v u1.log m z es2 m (locker_at y) L 0 (Need (got + length bs)) yr.view yk.node (ap (λ (t : View). locker_of t.members) yr.view) refl)))
+        (sends u1 v u1.log m z es2 m (locker_at y) L 0 (Need (got + length bs)) yr.view yk.node (ap (λ (t : View). locker_of t.members) yr.view) refl)))
         (λ ge ev.
         let q = yk.pulled got sg in
         let o : Offering = q.0 in
@@ -395,18 +373,18 @@ module _ {M : Machine} where
         let taking : ReconcileState = record y.join { stage = stage.Taking } in
         let z : NodeState M = joined (with_replica y g o.count) o.count o.last (record y.join { stage = stage.Ready }) in
         let ts : takes_state y (y.bytes ++ bs) taking ≡ says_ready z =
-            ap (λ (f : Option Offering). elim f [
-              | None ↦ nothing y
-              | Some o ↦ elim (M.decode o.cap (y.bytes ++ bs)) [
-                | Some registry ↦ says_ready (joined (with_replica y registry o.count) o.count o.last (joining.taken taking true).0)
-                | None ↦ tells (record y { join = (joining.taken taking false).0; bytes = [] }) (locker_at y) (Need 0)
-              ]
-            ]) q.1
-            ∙ ap (λ (d : Option M.Registry). elim d [
-              | Some registry ↦ says_ready (joined (with_replica y registry o.count) o.count o.last (joining.taken taking true).0)
-              | None ↦ tells (record y { join = (joining.taken taking false).0; bytes = [] }) (locker_at y) (Need 0)
-            ]) dec
-            ∙ ap (λ (r : ReconcileState × Step). says_ready (joined (with_replica y g o.count) o.count o.last r.0)) (taken_ready y.join stage.Taking p.4) in
+        ap (λ (f : Option Offering). elim f [
+          | None ↦ nothing y
+          | Some o ↦ elim (M.decode o.cap (y.bytes ++ bs)) [
+            | Some registry ↦ says_ready (joined (with_replica y registry o.count) o.count o.last (joining.taken taking true).0)
+            | None ↦ tells (record y { join = (joining.taken taking false).0; bytes = [] }) (locker_at y) (Need 0)
+          ]
+        ]) q.1
+        ∙ ap (λ (d : Option M.Registry). elim d [
+          | Some registry ↦ says_ready (joined (with_replica y registry o.count) o.count o.last (joining.taken taking true).0)
+          | None ↦ tells (record y { join = (joining.taken taking false).0; bytes = [] }) (locker_at y) (Need 0)
+        ]) dec
+        ∙ ap (λ (r : ReconcileState × Step). says_ready (joined (with_replica y g o.count) o.count o.last r.0)) (taken_ready y.join stage.Taking p.4) in
         told_go v w0 u1 m y z x (Deliver hd1.at Written) h1 n1 refl lm apart x1 y1 (ev ∙ ap (λ (o : Out M). absorb m o u1) ts) refl refl refl (omega arith))
         (ev ∙ ap (λ (o : Out M). absorb m o u1) hp))
 
@@ -427,7 +405,7 @@ module _ {M : Machine} where
         let few : length z.core.queue ≤ length y.core.queue = let q : length z.core.queue ≡ length y.core.queue = ap (λ (c : CoreState). length c.queue) zc in omega (arith, q) in
         move law w v e m y z es (λ u. Told v w0 m x u) g h ev yat (ap (λ (t : ReconcileState). t.view) zj) (ap (λ (t : ReconcileState). t.inc) zj) (λ h1.
         pull_go (length (M.encode r.registry)) v w0 u m x z got r h1 (near_turned w0 w m y z es nr yat few) lm ll apart (put_other w.nodes m L (Some z) x apart xat) shut rep (put_self w.nodes m (Some z)) (ap (λ (t : ReconcileState). t.stage) zj) fit (omega arith)
-            (sends w v w.log m z es m (locker_at y) L 0 (Need got) (ap (λ (t : ReconcileState). t.view) zj ∙ yr.view) (ap (λ (t : ReconcileState). t.node) zj ∙ yk.node) (ap (λ (t : View). locker_of t.members) yr.view) refl))
+        (sends w v w.log m z es m (locker_at y) L 0 (Need got) (ap (λ (t : ReconcileState). t.view) zj ∙ yr.view) (ap (λ (t : ReconcileState). t.node) zj ∙ yk.node) (ap (λ (t : View). locker_of t.members) yr.view) refl))
 
     each_sent : (x : NodeState M) (b : Body) (ms : List Member) (j : ℕ) (t : Member) → slice_get ms j ≡ Some t → joining.waits_for x.join t.node ≡ true → (k : ℕ) × (slice_get (sent (offer_each x b ms)) k ≡ Some (packet x t.node b))
     each_sent x b [] j t e h = absurd (cc)
@@ -448,8 +426,8 @@ module _ {M : Machine} where
         let n : ℕ = joining.awaited x.join in
         let pos : 0 < n = count_pos (λ (m : Member). joining.waits_for x.join m.node) x.join.view.members j t e wf in
         let tk : joining.ticked x.join ≡ step.OfferTo n =
-            ap (λ (b : Bool). if b then (if nat_lt 0 n then step.OfferTo n else step.Nothing) else elim (joining.pulled_bytes x.join) [ Some got ↦ step.Pull got | None ↦ if joining.is_ready x.join && not (joining.is_open x.join) then step.Ready else step.Nothing ]) lk
-            ∙ ap (λ (b : Bool). if b then step.OfferTo n else step.Nothing) (lt_is 0 n pos) in
+        ap (λ (b : Bool). if b then (if nat_lt 0 n then step.OfferTo n else step.Nothing) else elim (joining.pulled_bytes x.join) [ Some got ↦ step.Pull got | None ↦ if joining.is_ready x.join && not (joining.is_open x.join) then step.Ready else step.Nothing ]) lk
+        ∙ ap (λ (b : Bool). if b then step.OfferTo n else step.Nothing) (lt_is 0 n pos) in
         let es = each_sent x (Offer (done_of x) (offered_cap x) x.last) x.join.view.members j t e wf in
         let c : slice_get (sent C) es.0 ≡ Some p = ap (λ (s : Step). slice_get (sent (tick_join x s)) es.0) tk ∙ es.1 in
         let b = at_back B C p es.0 c in
@@ -469,8 +447,8 @@ module _ {M : Machine} where
         let inx : slice_get x.join.view.members ma.0 ≡ Some ma.1 = ap (λ (t : View). slice_get t.members ma.0) xr.view ∙ ma.2 in
         let lmx : 0 < inc_of x.join.view.members m = subst (λ (t : View). 0 < inc_of t.members m) (sym xr.view) lm in
         let wf : joining.waits_for x.join m ≡ true =
-            both (joining.locks x.join && not (joining.is_open x.join) && nat_lt 0 (inc_of x.join.view.members m)) (not (joining.counts_ready x.join m))
-                (both (joining.locks x.join && not (joining.is_open x.join)) (nat_lt 0 (inc_of x.join.view.members m)) (both (joining.locks x.join) (not (joining.is_open x.join)) lks (ap not shut)) (lt_is 0 (inc_of x.join.view.members m) lmx)) (ap not nc) in
+        both (joining.locks x.join && not (joining.is_open x.join) && nat_lt 0 (inc_of x.join.view.members m)) (not (joining.counts_ready x.join m))
+        (both (joining.locks x.join && not (joining.is_open x.join)) (nat_lt 0 (inc_of x.join.view.members m)) (both (joining.locks x.join) (not (joining.is_open x.join)) lks (ap not shut)) (lt_is 0 (inc_of x.join.view.members m) lmx)) (ap not nc) in
         let tk = offer_tells x ma.0 ma.1 lks inx (ap (λ (a : ℕ). joining.waits_for x.join a) tn ∙ wf) in
         let o : Offering = record { count = done_of x; cap = offered_cap x; last = x.last } in
         let b : Body = Offer (done_of x) (offered_cap x) x.last in
@@ -492,7 +470,7 @@ module _ {M : Machine} where
         let gd : (nat_eq L (locker_at y) && not (joining.locks y.join)) ≡ true = both (nat_eq L (locker_at y)) (not (joining.locks y.join)) (eq_is L (locker_at y) (ap (λ (t : View). locker_of t.members) (sym yo.1.view))) (ap not nlk) in
         let R : Out M = if joining.is_ready y.join then says_ready y else follows y o (joining.offered y.join o.count (place_of o.last) (known_done y)) in
         let ev : happens u1 e ≡ absorb m R u1 =
-            still_is u1 (mail v L m b) y R hd1 y1 (heard u1 v y L m b h1 ll lm y1 ∙ ap (λ (c : Bool). unlogged (if c then R else nothing y)) gd) in
+        still_is u1 (mail v L m b) y R hd1 y1 (heard u1 v y L m b h1 ll lm y1 ∙ ap (λ (c : Bool). unlogged (if c then R else nothing y)) gd) in
         if_cases (λ (r : Out M). happens u1 e ≡ absorb m r u1 → Leads goes_on u1 Q) (joining.is_ready y.join) _ _
         (λ yrd ev. told_go v w u1 m y y x e h1 n1 refl lm apart x1 y1 ev refl refl refl (omega arith))
         (λ ynr ev.
@@ -509,8 +487,8 @@ module _ {M : Machine} where
         let z : NodeState M = joined (applied pe.0 y) o.count o.last (record y.join { stage = stage.Ready }) in
         let J : ReconcileState = (joining.taken (record y.join { stage = stage.Taking }) true).0 in
         let fo : follows y o (record y.join { stage = stage.Taking }, step.ApplyLast) ≡ says_ready z =
-            ap (λ (l : Option Entry). elim l [ None ↦ nothing y | Some d ↦ says_ready (joined (applied d y) o.count o.last J) ]) pe.1
-            ∙ ap (λ (r : ReconcileState × Step). says_ready (joined (applied pe.0 y) o.count o.last r.0)) tr in
+        ap (λ (l : Option Entry). elim l [ None ↦ nothing y | Some d ↦ says_ready (joined (applied d y) o.count o.last J) ]) pe.1
+        ∙ ap (λ (r : ReconcileState × Step). says_ready (joined (applied pe.0 y) o.count o.last r.0)) tr in
         told_go v w u1 m y z x e h1 n1 refl lm apart x1 y1 (ev ∙ ap (λ (r : Out M). absorb m r u1) fo) refl refl refl (omega arith))
         (λ nz nr ev.
         let got : ℕ = unwrap_or (joining.pulled_bytes y.join) 0 in
@@ -561,11 +539,11 @@ module _ {M : Machine} where
         let z : NodeState M = record x { join = record (joining.marked x.join m.node) { stage = stage.Open } } in
         let out = begins_out z (Opened z.join.view.number ∷ to_each z OpenView (spread_of (members_of z))) in
         let y : NodeState M = out.0 in
-        let u : World M = turned w w.log L y out.1 in
-        move law w v e L x y out.1 Q refl h (ev ∙ ap (λ (r : Out M). absorb L r w) out.3) xat (ap (λ (j : ReconcileState). j.view) out.4) (ap (λ (j : ReconcileState). j.inc) out.4) (λ h1.
+        let u : World M = turned_to w w.log L y out.2 out.1 in
+        move_to law w v e L x y out.2 out.1 Q refl h (ev ∙ ap (λ (r : Out M). absorb L r w) out.3) xat (ap (λ (j : ReconcileState). j.view) out.4) (ap (λ (j : ReconcileState). j.inc) out.4) (λ h1.
         leads_now goes_on u Q (record {
           stand = h1;
-          near = near_turned w0 w L x y out.1 t.near xat out.5;
+          near = near_to w0 w L x y out.2 out.1 t.near xat out.5;
           goal = inl (ap (λ (o : Option (NodeState M)). shown (λ (a : NodeState M). joining.is_open a.join) false o) (put_self w.nodes L (Some y)) ∙ ap joining.is_open out.4);
         })))
         (λ l op all ev.

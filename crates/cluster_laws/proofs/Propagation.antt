@@ -1,12 +1,14 @@
 -- The lock is freed: what was granted spreads to each member, and is released.
-use Rattle.std.proofs.Common.{◌≡◌, ◌≢◌, ◌⊎◌, inl, inr, ⊎_elim, ℕ, zero, suc, ◌+◌, ◌<◌, ◌≤◌, Bool, true, false, not, ◌&&◌, List, [], ◌∷◌, ◌++◌, length, drop, Option, Some, None, is_none, nat_eq, nat_lt, nat_le, if◌then◌else◌, slice_get, refl, sym, ap, ◌∙◌, subst, arith}
+use Rattle.std.proofs.Common.{◌≡◌, ℕ, zero, suc, ◌+◌, ◌<◌, ◌≤◌, Bool, true, false, not, ◌&&◌, List, [], ◌∷◌, ◌++◌, length, drop, Option, Some, None, nat_eq, nat_lt, if◌then◌else◌, slice_get, refl, sym, ap, ◌∙◌, subst, arith}
 use Rattle.gum_messages.specs.declared.member.Member.{Member}
 use Rattle.gum_messages.specs.declared.view.View.{View}
 use Rattle.gum_messages.specs.Members.{inc_of, is_locker, locker_of, spread_of}
-use Rattle.gum_messages.specs.Views.{Ascend, IsView}
-use Rattle.gum_messages.specs.Places.{at_place}
+use Rattle.gum_messages.specs.Views.{Ascend}
 use Rattle.gum_messages.proofs.Branches.{if_cases, option_cases}
 use Rattle.gum_messages.proofs.Placing.{get_within, place_within}
+use Rattle.gum_messages.specs.declared.body.Body.{Body}
+use Rattle.gum_messages.specs.Messages.{Sent}
+use Rattle.gum_messages.specs.declared.body.Body.TheVariants.{Ask, Granted, Apply, Applied, Release}
 use Rattle.update_records.specs.Entry.{Entry}
 use Rattle.update_records.specs.declared.update.Update.{Update}
 use Rattle.gum_core.specs.declared.decision.Decision.{Decision}
@@ -18,26 +20,21 @@ use Rattle.gum_core.specs.Updating as updating
 use Rattle.gum_core.proofs.Cases.{applying_cases, receiver_says}
 use Rattle.view_reconcile.specs.Joining.{ReconcileState}
 use Rattle.view_reconcile.specs.Joining as joining
+use Rattle.cluster_rules.specs.Nodes.{acknowledges, NodeState, Out, asks, becomes, done_of, locker_at, nothing, number_of, packet}
 use Rattle.cluster_rules.specs.Machines.{Machine, IsMachine}
-use Rattle.gum_messages.specs.declared.body.Body.{Body}
-use Rattle.gum_messages.specs.Messages.{Sent}
-use Rattle.gum_messages.specs.declared.body.Body.TheVariants.{Ask, Granted, Apply, Applied, Release}
 use Rattle.cluster_rules.specs.declared.effect.Effect.TheVariants.{Acked, Send}
 use Rattle.cluster_rules.specs.declared.effect.Effect.{Effect}
-use Rattle.cluster_rules.specs.Nodes.{NodeState, Out, asks, becomes, done_of, locker_at, nothing, number_of, packet, tells}
-use Rattle.cluster_rules.specs.Updates.{Logged, Written, applied, applies, on_applied, on_apply, on_granted, on_release, proceeds, tick_head, tick_lock, unlogged, without_head}
+use Rattle.cluster_rules.specs.Updates.{Written, applied, applies, on_applied, on_apply, proceeds, tick_head, tick_lock, unlogged, without_head}
 use Rattle.cluster_rules.specs.Joins.{tick_join}
 use Rattle.cluster_rules.specs.Receiving.{counts, hears, receive, tick}
-use Rattle.cluster_rules.specs.Worlds.{Deliver, Event, Log, Tick, World, absorb, happens, put, sent}
-use Rattle.cluster_rules.specs.Progress.{Leads, Runs, goes_on, queue_at, waiting}
-use Rattle.cluster_laws.proofs.Guards.{both, eq_is, eq_not, le_is, lt_is, lt_not, or_either, or_left, or_right}
-use Rattle.cluster_laws.proofs.Applying.{lt_false}
-use Rattle.cluster_laws.proofs.Sound.{Sound}
-use Rattle.cluster_laws.proofs.Inv.{Has, Invariant, NodeOk, Owner, Stands}
-use Rattle.cluster_laws.proofs.Moves.{slice_get_append, slice_get_back, slice_get_front}
+use Rattle.cluster_rules.specs.Worlds.{Deliver, Event, Log, Tick, World, absorb, happens, sent}
+use Rattle.cluster_rules.specs.Progress.{Leads, Runs, goes_on, queue_at}
+use Rattle.cluster_laws.proofs.Leading.{go_to, turned_to, Held, Live, go, leads_now, put_self, queue_less, quiet_is, still_is, sent_held, shown, shown_same, tick_is, turned}
+use Rattle.cluster_laws.proofs.Guards.{both, eq_is, eq_not, lt_is}
+use Rattle.cluster_laws.proofs.Inv.{NodeOk, Owner, Stands}
+use Rattle.cluster_laws.proofs.Moves.{slice_get_back, slice_get_front}
 use Rattle.cluster_laws.proofs.Opening.{sent_append}
 use Rattle.cluster_laws.proofs.HeadRules.{open_is_ready}
-use Rattle.cluster_laws.proofs.Leading.{Held, Live, go, leads_now, put_self, queue_less, quiet_is, still_is, sent_held, shown, shown_same, tick_is, turned}
 
 -- Members
 pub locker_locks : (ms : List Member) → 0 < inc_of ms (locker_of ms) → is_locker ms (locker_of ms) ≡ true
@@ -100,8 +97,8 @@ module _ {M : Machine} where
       let B : List Effect = tick_lock x in
       let C : List Effect = tick_join x (joining.ticked x.join) in
       let b : B ≡ Send (packet x l.node (Granted e)) ∷ [] =
-          ap (λ (o : Option Lock). elim o [ None ↦ [] | Some l ↦ elim x.last [ None ↦ [] | Some e ↦ Send (packet x l.node (Granted e)) ∷ [] ] ]) lk
-          ∙ ap (λ (o : Option Entry). elim o [ None ↦ [] | Some e ↦ Send (packet x l.node (Granted e)) ∷ [] ]) la in
+      ap (λ (o : Option Lock). elim o [ None ↦ [] | Some l ↦ elim x.last [ None ↦ [] | Some e ↦ Send (packet x l.node (Granted e)) ∷ [] ] ]) lk
+      ∙ ap (λ (o : Option Entry). elim o [ None ↦ [] | Some e ↦ Send (packet x l.node (Granted e)) ∷ [] ]) la in
       let f = at_front B C (packet x l.node (Granted e)) 0 (first_sent B (packet x l.node (Granted e)) b) in
       at_back A (B ++ C) (packet x l.node (Granted e)) f.0 f.1
 
@@ -113,11 +110,11 @@ module _ {M : Machine} where
       let p : Sent = packet x (locker_at x) (Ask (x.core.passed + 1) u) in
       let some : 0 < length x.core.queue = subst (λ (l : List Update). 0 < length l) (sym q) (omega arith) in
       let d : updating.ticked x.core ≡ decision.Ask (x.core.passed + 1) =
-          ap (λ (b : Bool). if b then elim x.core.spreading [ None ↦ decision.Ask (x.core.passed + 1) | Some s ↦ elim (updating.receiver x.core s.at) [ None ↦ decision.Nothing | Some to ↦ decision.Spread to s.place ] ] else decision.Nothing) (open_head x.core op some)
-          ∙ ap (λ (o : Option Spreading). elim o [ None ↦ decision.Ask (x.core.passed + 1) | Some s ↦ elim (updating.receiver x.core s.at) [ None ↦ decision.Nothing | Some to ↦ decision.Spread to s.place ] ]) none in
+      ap (λ (b : Bool). if b then elim x.core.spreading [ None ↦ decision.Ask (x.core.passed + 1) | Some s ↦ elim (updating.receiver x.core s.at) [ None ↦ decision.Nothing | Some to ↦ decision.Spread to s.place ] ] else decision.Nothing) (open_head x.core op some)
+      ∙ ap (λ (o : Option Spreading). elim o [ None ↦ decision.Ask (x.core.passed + 1) | Some s ↦ elim (updating.receiver x.core s.at) [ None ↦ decision.Nothing | Some to ↦ decision.Spread to s.place ] ]) none in
       let a : A ≡ Send p ∷ [] =
-          ap (λ (d : Decision). tick_head x d) d
-          ∙ ap (λ (l : List Update). elim l [ [] ↦ [] | u ∷ us ↦ Send (packet x (locker_at x) (Ask (x.core.passed + 1) u)) ∷ [] ]) q in
+      ap (λ (d : Decision). tick_head x d) d
+      ∙ ap (λ (l : List Update). elim l [ [] ↦ [] | u ∷ us ↦ Send (packet x (locker_at x) (Ask (x.core.passed + 1) u)) ∷ [] ]) q in
       at_front A (B ++ C) p 0 (first_sent A p a)
 
   pub apply_tells : (x : NodeState M) (s : Spreading) (to : ℕ) (e : Entry) → x.core.is_open ≡ true → 0 < length x.core.queue → x.core.spreading ≡ Some s → updating.receiver x.core s.at ≡ Some to → x.spreads ≡ Some e → (k : ℕ) × (slice_get (sent (tick x).effects) k ≡ Some (packet x to (Apply e)))
@@ -127,12 +124,12 @@ module _ {M : Machine} where
       let C : List Effect = tick_join x (joining.ticked x.join) in
       let p : Sent = packet x to (Apply e) in
       let d : updating.ticked x.core ≡ decision.Spread to s.place =
-          ap (λ (b : Bool). if b then elim x.core.spreading [ None ↦ decision.Ask (x.core.passed + 1) | Some s ↦ elim (updating.receiver x.core s.at) [ None ↦ decision.Nothing | Some to ↦ decision.Spread to s.place ] ] else decision.Nothing) (open_head x.core op some)
-          ∙ ap (λ (o : Option Spreading). elim o [ None ↦ decision.Ask (x.core.passed + 1) | Some s ↦ elim (updating.receiver x.core s.at) [ None ↦ decision.Nothing | Some to ↦ decision.Spread to s.place ] ]) sp
-          ∙ ap (λ (o : Option ℕ). elim o [ None ↦ decision.Nothing | Some to ↦ decision.Spread to s.place ]) rc in
+      ap (λ (b : Bool). if b then elim x.core.spreading [ None ↦ decision.Ask (x.core.passed + 1) | Some s ↦ elim (updating.receiver x.core s.at) [ None ↦ decision.Nothing | Some to ↦ decision.Spread to s.place ] ] else decision.Nothing) (open_head x.core op some)
+      ∙ ap (λ (o : Option Spreading). elim o [ None ↦ decision.Ask (x.core.passed + 1) | Some s ↦ elim (updating.receiver x.core s.at) [ None ↦ decision.Nothing | Some to ↦ decision.Spread to s.place ] ]) sp
+      ∙ ap (λ (o : Option ℕ). elim o [ None ↦ decision.Nothing | Some to ↦ decision.Spread to s.place ]) rc in
       let a : A ≡ Send p ∷ [] =
-          ap (λ (d : Decision). tick_head x d) d
-          ∙ ap (λ (o : Option Entry). elim o [ None ↦ [] | Some e ↦ Send (packet x to (Apply e)) ∷ [] ]) sd in
+      ap (λ (d : Decision). tick_head x d) d
+      ∙ ap (λ (o : Option Entry). elim o [ None ↦ [] | Some e ↦ Send (packet x to (Apply e)) ∷ [] ]) sd in
       at_front A (B ++ C) p 0 (first_sent A p a)
 
   -- What is known of a member
@@ -149,16 +146,19 @@ module _ {M : Machine} where
   pub counts_true : (v : View) (x : NodeState M) (m n : ℕ) (b : Body) → x.join.view ≡ v → 0 < inc_of v.members m → counts x (mail v m n b) ≡ true
   counts_true v x m n b xv lt =
       both (nat_eq v.number x.join.view.number) (nat_lt 0 (inc_of x.join.view.members m))
-          (eq_is v.number x.join.view.number (ap (λ (t : View). t.number) (sym xv)))
-          (lt_is 0 (inc_of x.join.view.members m) (subst (λ (t : View). 0 < inc_of t.members m) (sym xv) lt))
+      (eq_is v.number x.join.view.number (ap (λ (t : View). t.number) (sym xv)))
+      (lt_is 0 (inc_of x.join.view.members m) (subst (λ (t : View). 0 < inc_of t.members m) (sym xv) lt))
 
   -- a message of a member to a member is heard
   pub heard : (w : World M) (v : View) (x : NodeState M) (m n : ℕ) (b : Body) → Live w v → 0 < inc_of v.members m → 0 < inc_of v.members n → w.nodes n ≡ Some x → receive x (mail v m n b) w.log.held Written ≡ hears x m b w.log.held Written
   heard w v x m n b h lm ln xat = ap (λ (c : Bool). if c then hears x m b w.log.held Written else unlogged (nothing x)) (counts_true v x m n b (member_runs w v n x h ln xat).view lm)
 
   -- what was sent by a node that became y
+  pub sends_to : (w : World M) (v : View) (l : Log) (n : ℕ) (y : NodeState M) (out : Option M.Outcome) (es : List Effect) (m to k a : ℕ) (b : Body) → y.join.view ≡ v → y.join.node ≡ m → to ≡ k → slice_get (sent es) a ≡ Some (packet y to b) → Held (turned_to w l n y out es) (mail v m k b)
+  sends_to w v l n y out es m to k a b yv yn tk e = subst (λ (p : Sent). Held (turned_to w l n y out es) p) (mailed v y m to k b yv yn tk) (sent_held (record w { log = l }) n (acknowledges y out es) (packet y to b) a e)
+
   pub sends : (w : World M) (v : View) (l : Log) (n : ℕ) (y : NodeState M) (es : List Effect) (m to k a : ℕ) (b : Body) → y.join.view ≡ v → y.join.node ≡ m → to ≡ k → slice_get (sent es) a ≡ Some (packet y to b) → Held (turned w l n y es) (mail v m k b)
-  sends w v l n y es m to k a b yv yn tk e = subst (λ (p : Sent). Held (turned w l n y es) p) (mailed v y m to k b yv yn tk) (sent_held (record w { log = l }) n (becomes y es) (packet y to b) a e)
+  sends w v l n y es m to k a b yv yn tk e = sends_to w v l n y None es m to k a b yv yn tk e
 
   -- Worlds that went on from another one
   pub record Near (w u : World M) : Type 0 where
@@ -169,12 +169,15 @@ module _ {M : Machine} where
   pub near_self : (w : World M) → Near w w
   near_self w = record { log = refl; requests = refl; fewer = λ n. omega arith }
 
-  pub near_turned : (w0 w : World M) (n : ℕ) (x y : NodeState M) (es : List Effect) → Near w0 w → w.nodes n ≡ Some x → length y.core.queue ≤ length x.core.queue → Near w0 (turned w w.log n y es)
-  near_turned w0 w n x y es h at le = record {
+  pub near_to : (w0 w : World M) (n : ℕ) (x y : NodeState M) (out : Option M.Outcome) (es : List Effect) → Near w0 w → w.nodes n ≡ Some x → length y.core.queue ≤ length x.core.queue → Near w0 (turned_to w w.log n y out es)
+  near_to w0 w n x y out es h at le = record {
     log = h.log;
     requests = h.requests;
-    fewer = λ m. let a : queue_at w m ≤ queue_at w0 m = h.fewer m in let b : queue_at (turned w w.log n y es) m ≤ queue_at w m = queue_less w.nodes n x y at le m in omega (arith, a, b);
+    fewer = λ m. let a : queue_at w m ≤ queue_at w0 m = h.fewer m in let b : queue_at (turned_to w w.log n y out es) m ≤ queue_at w m = queue_less w.nodes n x y at le m in omega (arith, a, b);
   }
+
+  pub near_turned : (w0 w : World M) (n : ℕ) (x y : NodeState M) (es : List Effect) → Near w0 w → w.nodes n ≡ Some x → length y.core.queue ≤ length x.core.queue → Near w0 (turned w w.log n y es)
+  near_turned w0 w n x y es h at le = near_to w0 w n x y None es h at le
 
   abbrev pub lock_at : World M → ℕ → Option Lock
   lock_at w n = shown (λ (x : NodeState M). x.core.lock) None (w.nodes n)
@@ -200,11 +203,11 @@ module _ {M : Machine} where
       let y : NodeState M = record x { core = record x.core { lock = None } } in
       let xl : x.core.lock ≡ Some l = sym (shown_at (λ (t : NodeState M). t.core.lock) None w L x at) ∙ lk in
       let held : updating.is_held x.core m req ≡ true =
-          ap (λ (k : Option Lock). elim k [ None ↦ false | Some l ↦ nat_eq l.node m && nat_eq l.req req ]) xl
-          ∙ both (nat_eq l.node m) (nat_eq l.req req) (eq_is l.node m ln) (eq_is l.req req lr) in
+      ap (λ (k : Option Lock). elim k [ None ↦ false | Some l ↦ nat_eq l.node m && nat_eq l.req req ]) xl
+      ∙ both (nat_eq l.node m) (nat_eq l.req req) (eq_is l.node m ln) (eq_is l.req req lr) in
       let lks : updating.locks x.core ≡ true =
-          ap (λ (ms : List Member). is_locker ms x.core.node) (nk.core_members ∙ ap (λ (t : View). t.members) o.1.view)
-          ∙ ap (λ (a : ℕ). is_locker v.members a) nk.core_node ∙ locker_locks v.members ll in
+      ap (λ (ms : List Member). is_locker ms x.core.node) (nk.core_members ∙ ap (λ (t : View). t.members) o.1.view)
+      ∙ ap (λ (a : ℕ). is_locker v.members a) nk.core_node ∙ locker_locks v.members ll in
       let rs : updating.released x.core m req ≡ (record x.core { lock = None }, decision.Free) = ap (λ (b : Bool). if b then (record x.core { lock = None }, decision.Free) else (x.core, decision.Nothing)) (both (updating.locks x.core) (updating.is_held x.core m req) lks held) in
       let rl : (updating.released x.core m req).0 ≡ record x.core { lock = None } = ap (λ (t : CoreState × Decision). t.0) rs in
       let r : receive x (mail v m L (Release req)) w.log.held Written ≡ unlogged (becomes y []) = heard w v x m L (Release req) h lm ll at ∙ ap (λ (c : CoreState). unlogged (nothing (record x { core = c }))) rl in
@@ -236,14 +239,14 @@ module _ {M : Machine} where
       let next : Option ℕ = if nat_lt 1 (length y.core.queue) then Some (y.core.passed + 2) else None in
       let es : List Effect = Acked (number_of y) r.place ∷ Send (packet z (locker_at y) (Release (y.core.passed + 1))) ∷ asks z next in
       let less : length z.core.queue + 1 ≤ length y.core.queue = drop_less y.core.queue some in
-      go law w v e w.log m y z es (λ u. Freed v w0 m 1 u) g h ev yat refl refl
+      go_to law w v e w.log m y z y.outcome es (λ u. Freed v w0 m 1 u) g h ev yat refl refl
       (λ live.
-      let u : World M = turned w w.log m z es in
-      let hd : Held u (mail v m L (Release (y.core.passed + 1))) = sends w v w.log m z es m (locker_at y) L 0 (Release (y.core.passed + 1)) rn.view nk.node (ap (λ (t : View). locker_of t.members) rn.view) refl in
+      let u : World M = turned_to w w.log m z y.outcome es in
+      let hd : Held u (mail v m L (Release (y.core.passed + 1))) = sends_to w v w.log m z y.outcome es m (locker_at y) L 0 (Release (y.core.passed + 1)) rn.view nk.node (ap (λ (t : View). locker_of t.members) rn.view) refl in
       let here : queue_at u m ≡ length z.core.queue = ap (λ (o : Option (NodeState M)). shown (λ (t : NodeState M). length t.core.queue) 0 o) (put_self w.nodes m (Some z)) in
       let was : queue_at w m ≡ length y.core.queue = shown_at (λ (t : NodeState M). length t.core.queue) 0 w m y yat in
       let few : queue_at w m ≤ queue_at w0 m = nr.fewer m in
-      release_step law v w0 u m (y.core.passed + 1) 1 l live (near_turned w0 w m y z es nr yat (omega (arith, less))) hd lm ll (shown_same (λ (t : NodeState M). t.core.lock) None w.nodes m y z yat refl L ∙ lk) ln lr (omega (arith, less, here, was, few))))
+      release_step law v w0 u m (y.core.passed + 1) 1 l live (near_to w0 w m y z y.outcome es nr yat (omega (arith, less))) hd lm ll (shown_same (λ (t : NodeState M). t.core.lock) None w.nodes m y z yat refl L ∙ lk) ln lr (omega (arith, less, here, was, few))))
       (λ to rc ev.
       let z : NodeState M = spreading_at y r at in
       go law w v e w.log m y z (Send (packet z to (Apply r)) ∷ []) (λ u. Freed v w0 m 1 u) g h ev yat refl refl (λ live. again to rc live))
@@ -266,8 +269,8 @@ module _ {M : Machine} where
       let nk : NodeOk w L x = h.stand.sound.inv.nodes L x o.1.node in
       let op : joining.is_open x.join ≡ true = h.open_ L x ll o.1.node in
       let lks : joining.locks x.join ≡ true =
-          ap (λ (t : View). is_locker t.members x.join.node) o.1.view
-          ∙ ap (λ (a : ℕ). is_locker v.members a) nk.node ∙ locker_locks v.members ll in
+      ap (λ (t : View). is_locker t.members x.join.node) o.1.view
+      ∙ ap (λ (a : ℕ). is_locker v.members a) nk.node ∙ locker_locks v.members ll in
       let ow : Owner w L x = record { runs = o.1.node; ready = open_is_ready x.join op; locker = lks; held = ap (λ (t : View). t.number) o.1.view ∙ sym h.stand.held } in
       let zr = member_runs w v to z h lt zat in
       let mo = (h.stand.sound.inv.owner L x ow).members op to z zat (ap (λ (t : View). inc_of t.members to) o.1.view ∙ sym zr.inc) in
@@ -281,8 +284,8 @@ module _ {M : Machine} where
       let aw : updating.awaits y.core s to ≡ true = ap (λ (o : Option ℕ). elim o [ None ↦ false | Some t ↦ nat_eq t to ]) rc ∙ eq_is to to refl in
       let g : (nat_eq s.place r.place && updating.awaits y.core s to) ≡ true = both (nat_eq s.place r.place) (updating.awaits y.core s to) (eq_is s.place r.place pl) aw in
       let a : updating.applied y.core to r.place ≡ updating.spread y.core r.place (s.at + 1) =
-          ap (λ (o : Option Spreading). elim o [ None ↦ (y.core, decision.Nothing) | Some s ↦ if nat_eq s.place r.place && updating.awaits y.core s to then updating.spread y.core r.place (s.at + 1) else (y.core, decision.Nothing) ]) sp
-          ∙ ap (λ (b : Bool). if b then updating.spread y.core r.place (s.at + 1) else (y.core, decision.Nothing)) g in
+      ap (λ (o : Option Spreading). elim o [ None ↦ (y.core, decision.Nothing) | Some s ↦ if nat_eq s.place r.place && updating.awaits y.core s to then updating.spread y.core r.place (s.at + 1) else (y.core, decision.Nothing) ]) sp
+      ∙ ap (λ (b : Bool). if b then updating.spread y.core r.place (s.at + 1) else (y.core, decision.Nothing)) g in
       ap (λ (o : Option Entry). elim o [ None ↦ nothing y | Some e ↦ proceeds y e (updating.applied y.core to r.place) ]) sd
       ∙ ap (λ (t : CoreState × Decision). proceeds y r t) a
 
@@ -341,18 +344,18 @@ module _ {M : Machine} where
       let yo = h2.stand.member m lm in
       let b : NodeState M = yo.0 in
       let bc : b.core ≡ y.core =
-          let e1 : shown (λ (a : NodeState M). a.core) y.core (u2.nodes m) ≡ shown (λ (a : NodeState M). a.core) y.core (u1.nodes m) = shown_same (λ (a : NodeState M). a.core) y.core u1.nodes to z t zo.1.node ao.3 m in
-          let e2 : shown (λ (a : NodeState M). a.core) y.core (u1.nodes m) ≡ y.core = ap (λ (o : Option (NodeState M)). shown (λ (a : NodeState M). a.core) y.core o) (put_self w.nodes m (Some y)) in
-          let e3 : shown (λ (a : NodeState M). a.core) y.core (u2.nodes m) ≡ b.core = shown_at (λ (a : NodeState M). a.core) y.core u2 m b yo.1.node in
-          sym e3 ∙ e1 ∙ e2 in
+      let e1 : shown (λ (a : NodeState M). a.core) y.core (u2.nodes m) ≡ shown (λ (a : NodeState M). a.core) y.core (u1.nodes m) = shown_same (λ (a : NodeState M). a.core) y.core u1.nodes to z t zo.1.node ao.3 m in
+      let e2 : shown (λ (a : NodeState M). a.core) y.core (u1.nodes m) ≡ y.core = ap (λ (o : Option (NodeState M)). shown (λ (a : NodeState M). a.core) y.core o) (put_self w.nodes m (Some y)) in
+      let e3 : shown (λ (a : NodeState M). a.core) y.core (u2.nodes m) ≡ b.core = shown_at (λ (a : NodeState M). a.core) y.core u2 m b yo.1.node in
+      sym e3 ∙ e1 ∙ e2 in
       let bs : b.spreads ≡ Some r =
-          let e1 : shown (λ (a : NodeState M). a.spreads) None (u2.nodes m) ≡ shown (λ (a : NodeState M). a.spreads) None (u1.nodes m) = shown_same (λ (a : NodeState M). a.spreads) None u1.nodes to z t zo.1.node ao.4 m in
-          let e2 : shown (λ (a : NodeState M). a.spreads) None (u1.nodes m) ≡ y.spreads = ap (λ (o : Option (NodeState M)). shown (λ (a : NodeState M). a.spreads) None o) (put_self w.nodes m (Some y)) in
-          let e3 : shown (λ (a : NodeState M). a.spreads) None (u2.nodes m) ≡ b.spreads = shown_at (λ (a : NodeState M). a.spreads) None u2 m b yo.1.node in
-          sym e3 ∙ e1 ∙ e2 ∙ f.1 in
+      let e1 : shown (λ (a : NodeState M). a.spreads) None (u2.nodes m) ≡ shown (λ (a : NodeState M). a.spreads) None (u1.nodes m) = shown_same (λ (a : NodeState M). a.spreads) None u1.nodes to z t zo.1.node ao.4 m in
+      let e2 : shown (λ (a : NodeState M). a.spreads) None (u1.nodes m) ≡ y.spreads = ap (λ (o : Option (NodeState M)). shown (λ (a : NodeState M). a.spreads) None o) (put_self w.nodes m (Some y)) in
+      let e3 : shown (λ (a : NodeState M). a.spreads) None (u2.nodes m) ≡ b.spreads = shown_at (λ (a : NodeState M). a.spreads) None u2 m b yo.1.node in
+      sym e3 ∙ e1 ∙ e2 ∙ f.1 in
       let ev : happens u2 (Deliver hd2.at Written) ≡ absorb m (proceeds b r (updating.spread b.core r.place (s.at + 1))) u2 =
-          still_is u2 (mail v to m (Applied r.place)) b (proceeds b r (updating.spread b.core r.place (s.at + 1))) hd2 yo.1.node
-              (heard u2 v b to m (Applied r.place) h2 lto lm yo.1.node ∙ ap (λ (o : Out M). unlogged o) (applied_out b r s to bs (ap (λ (c : CoreState). c.spreading) bc ∙ sp) (sym f.2) (receiver_same y.core b.core s.at to bc aw.1))) in
+      still_is u2 (mail v to m (Applied r.place)) b (proceeds b r (updating.spread b.core r.place (s.at + 1))) hd2 yo.1.node
+      (heard u2 v b to m (Applied r.place) h2 lto lm yo.1.node ∙ ap (λ (o : Out M). unlogged o) (applied_out b r s to bs (ap (λ (c : CoreState). c.spreading) bc ∙ sp) (sym f.2) (receiver_same y.core b.core s.at to bc aw.1))) in
       let bsome : 0 < length b.core.queue = subst (λ (c : CoreState). 0 < length c.queue) (sym bc) some in
       let lk1 : lock_at u1 L ≡ Some l = shown_same (λ (a : NodeState M). a.core.lock) None w.nodes m y y yat refl L ∙ lk in
       let lk2 : lock_at u2 L ≡ Some l = shown_same (λ (a : NodeState M). a.core.lock) None u1.nodes to z t zo.1.node (ap (λ (c : CoreState). c.lock) ao.3) L ∙ lk1 in
@@ -363,4 +366,4 @@ module _ {M : Machine} where
       let es3 : List Effect = Send (packet c to2 (Apply r)) ∷ [] in
       let u3 : World M = turned u2 u2.log m c es3 in
       spread_go j law v w0 u3 m c (record { place = r.place; at = s.at + 1 }) l h3 (near_turned w0 u2 m b c es3 n2 yo.1.node (omega arith)) lm ll (put_self u2.nodes m (Some c)) bsome refl
-          (shown_same (λ (a : NodeState M). a.core.lock) None u2.nodes m b c yo.1.node refl L ∙ lk2) ln blr (omega (arith, bound)))))
+      (shown_same (λ (a : NodeState M). a.core.lock) None u2.nodes m b c yo.1.node refl L ∙ lk2) ln blr (omega (arith, bound)))))

@@ -1,25 +1,20 @@
 -- In an open view all that is queued is served, one request after the other.
-use Rattle.std.proofs.Common.{◌≡◌, ◌≢◌, ◌⊎◌, inl, inr, ⊎_elim, ℕ, zero, suc, ◌+◌, ◌<◌, ◌≤◌, Bool, true, false, List, [], ◌∷◌, length, Option, Some, None, nat_eq, if◌then◌else◌, slice_get, refl, sym, ap, ◌∙◌, subst, arith}
+use Rattle.std.proofs.Common.{◌≡◌, ◌⊎◌, inl, inr, ⊎_elim, ℕ, zero, suc, ◌+◌, ◌<◌, ◌≤◌, Bool, true, false, List, [], ◌∷◌, length, Option, Some, None, nat_eq, if◌then◌else◌, slice_get, refl, sym, ap, ◌∙◌, subst, arith}
 use Rattle.gum_messages.specs.declared.member.Member.{Member}
 use Rattle.gum_messages.specs.declared.view.View.{View}
 use Rattle.gum_messages.specs.Members.{inc_of, is_locker, locker_of}
-use Rattle.gum_messages.proofs.Branches.{if_cases, option_cases}
-use Rattle.update_records.specs.Entry.{Entry}
 use Rattle.update_records.specs.declared.update.Update.{Update}
-use Rattle.gum_core.specs.declared.lock.Lock.{Lock}
 use Rattle.update_records.specs.Grammar.{last_place}
+use Rattle.gum_core.specs.declared.lock.Lock.{Lock}
 use Rattle.view_reconcile.specs.Joining as joining
 use Rattle.cluster_rules.specs.Machines.{Machine, IsMachine}
 use Rattle.cluster_rules.specs.Nodes.{NodeState}
 use Rattle.cluster_rules.specs.Worlds.{Log, World}
-use Rattle.cluster_rules.specs.Progress.{Acknowledged, Leads, Rests, Runs, Served, goes_on, queue_at, waiting}
-use Rattle.cluster_laws.proofs.Guards.{both, eq_is, eq_not, le_is, lt_is, lt_not, or_either, or_left, or_right}
-use Rattle.cluster_laws.proofs.Applying.{lt_false}
-use Rattle.cluster_laws.proofs.Sound.{Sound}
-use Rattle.cluster_laws.proofs.Inv.{Invariant, NodeOk}
+use Rattle.cluster_rules.specs.Progress.{Leads, Served, goes_on, queue_at, waiting}
+use Rattle.cluster_laws.proofs.Inv.{NodeOk}
 use Rattle.cluster_laws.proofs.Applying.{eq_true, locker_is}
-use Rattle.cluster_laws.proofs.Leading.{Live, leads_now, leads_then, shown}
-use Rattle.cluster_laws.proofs.Propagation.{Freed, above, lock_at, member_runs, shown_at}
+use Rattle.cluster_laws.proofs.Leading.{Live, leads_now, leads_then}
+use Rattle.cluster_laws.proofs.Propagation.{Freed, above, lock_at, shown_at}
 use Rattle.cluster_laws.proofs.Serving.{Round, ask_go, lock_go, none_or}
 
 empty_list : {A : Type 0} (l : List A) → length l ≡ 0 → l ≡ []
@@ -136,7 +131,7 @@ module _ {M : Machine} where
       let L : ℕ = locker_of v.members in
       let Q : World M → Type 0 = λ t. Served t v in
       let free : (u : World M) → Live u v → lock_at u L ≡ None → length u.log.order + waiting u v.members ≤ last_place → Leads goes_on u Q = λ u h f r.
-          leads_then goes_on u (λ t. Done v u t) Q (serve (waiting u v.members) law v u h ll f (omega arith) r) (λ t d. leads_now goes_on t Q (done_served v u t d)) in
+      leads_then goes_on u (λ t. Done v u t) Q (serve (waiting u v.members) law v u h ll f (omega arith) r) (λ t d. leads_now goes_on t Q (done_served v u t d)) in
       both (lock_at w L) (λ e. free w h e room) (λ l e.
       leads_then goes_on w (λ u. Freed v w l.node 0 u) Q (lock_go law v w l h ll e) (λ u f.
       let le : waiting u v.members ≤ waiting w v.members = waiting_le w u v.members f.near.fewer in

@@ -1,44 +1,36 @@
 -- In an open view every request is served.
-use Rattle.std.proofs.Common.{◌≡◌, ◌≢◌, ◌⊎◌, inl, inr, ⊎_elim, ℕ, zero, suc, ◌+◌, ◌<◌, ◌≤◌, Bool, true, false, not, ◌&&◌, List, [], ◌∷◌, ◌++◌, length, drop, Option, Some, None, is_none, nat_eq, nat_lt, nat_le, if◌then◌else◌, slice_get, refl, sym, ap, ◌∙◌, subst, arith}
+use Rattle.std.proofs.Common.{◌≡◌, ◌⊎◌, inl, inr, ⊎_elim, ℕ, zero, suc, ◌+◌, ◌<◌, ◌≤◌, Bool, true, false, ◌&&◌, List, [], ◌∷◌, ◌++◌, length, Option, Some, None, is_none, nat_eq, nat_lt, nat_le, if◌then◌else◌, refl, sym, ap, ◌∙◌, subst, arith}
 use Rattle.gum_messages.specs.declared.member.Member.{Member}
 use Rattle.gum_messages.specs.declared.view.View.{View}
 use Rattle.gum_messages.specs.Members.{inc_of, is_locker, locker_of, spread_of}
-use Rattle.gum_messages.specs.Views.{IsView}
 use Rattle.gum_messages.specs.Places.{at_place}
 use Rattle.gum_messages.proofs.Branches.{if_cases, list_cases, option_cases}
-use Rattle.gum_messages.proofs.Placing.{get_within, place_new, place_old, place_within}
-use Rattle.gum_core.proofs.Logging.{greatest_kept, greatest_logged}
-use Rattle.cluster_laws.proofs.Guards.{both, eq_is, eq_not, le_is, lt_is, lt_not, or_either, or_left, or_right}
-use Rattle.cluster_laws.proofs.Applying.{lt_false}
-use Rattle.cluster_laws.proofs.Sound.{Sound}
-use Rattle.cluster_laws.proofs.Growth.{length_snoc}
+use Rattle.gum_messages.specs.declared.body.Body.TheVariants.{Ask, Granted, Apply, Release}
 use Rattle.update_records.specs.Entry.{Entry}
 use Rattle.update_records.specs.declared.update.Update.{Update}
+use Rattle.update_records.specs.Grammar.{last_place}
 use Rattle.gum_core.specs.declared.decision.Decision.{Decision}
 use Rattle.gum_core.specs.declared.decision.Decision.TheVariants as decision
-use Rattle.gum_core.specs.declared.spreading.Spreading.{Spreading}
 use Rattle.gum_core.specs.declared.lock.Lock.{Lock}
 use Rattle.gum_core.specs.Updating.{CoreState, greatest_of}
-use Rattle.update_records.specs.Grammar.{last_place}
 use Rattle.gum_core.specs.Updating as updating
 use Rattle.view_reconcile.specs.Joining.{ReconcileState}
 use Rattle.view_reconcile.specs.Joining as joining
 use Rattle.cluster_rules.specs.Machines.{Machine, IsMachine}
-use Rattle.gum_messages.specs.declared.body.Body.{Body}
-use Rattle.gum_messages.specs.Messages.{Sent}
-use Rattle.gum_messages.specs.declared.body.Body.TheVariants.{Ask, Granted, Apply, Applied, Release}
-use Rattle.cluster_rules.specs.declared.effect.Effect.TheVariants.{Acked, Send}
+use Rattle.cluster_rules.specs.declared.effect.Effect.TheVariants.{Send}
 use Rattle.cluster_rules.specs.declared.effect.Effect.{Effect}
 use Rattle.cluster_rules.specs.declared.effect.HaltCause.TheVariants as halt
-use Rattle.cluster_rules.specs.Nodes.{halts, NodeState, Out, becomes, done_of, has_state, locker_at, nothing, number_of, packet, tells}
-use Rattle.cluster_rules.specs.Updates.{Logged, Written, answers, entry_for, has_logged, on_granted, proceeds, unlogged, writes}
+use Rattle.cluster_rules.specs.Nodes.{halts, NodeState, becomes, done_of, locker_at, number_of, packet}
+use Rattle.cluster_rules.specs.Updates.{Logged, Written, answers, entry_for, has_logged, proceeds, unlogged, writes}
 use Rattle.cluster_rules.specs.Receiving.{receive, tick}
-use Rattle.cluster_rules.specs.Worlds.{Deliver, Event, Log, Tick, World, absorb, append, happens, logs, put}
-use Rattle.cluster_rules.specs.Progress.{Acknowledged, Leads, Rests, Runs, Served, goes_on, queue_at, waiting}
-use Rattle.cluster_laws.proofs.Inv.{Asked, Has, Invariant, NodeOk, Owner, OwnerOk, Stands, at_head, greatest_asked, waits}
-use Rattle.cluster_laws.proofs.Applying.{done_at, eq_true, length_some, locker_is, state_of}
+use Rattle.cluster_rules.specs.Worlds.{Deliver, Log, Tick, World, absorb, append, happens, logs, put}
+use Rattle.cluster_rules.specs.Progress.{Leads, Runs, goes_on, queue_at}
+use Rattle.cluster_laws.proofs.Guards.{both, eq_is, eq_not, le_is, lt_is, lt_not}
+use Rattle.cluster_laws.proofs.Growth.{length_snoc}
+use Rattle.cluster_laws.proofs.Inv.{Has, NodeOk, OwnerOk, Stands, at_head, greatest_asked}
+use Rattle.cluster_laws.proofs.Applying.{done_at, eq_true, length_some, state_of}
 use Rattle.cluster_laws.proofs.HeadRules.{open_is_ready}
-use Rattle.cluster_laws.proofs.Leading.{Held, Live, deliver_is, go, leads_now, leads_then, put_self, queue_less, quiet_is, sent_held, shown, shown_same, still_is, tick_is, turned}
+use Rattle.cluster_laws.proofs.Leading.{Held, Live, deliver_is, go, leads_now, leads_then, put_self, queue_less, shown, shown_same, still_is, tick_is, turned}
 use Rattle.cluster_laws.proofs.Propagation.{Freed, Near, ask_tells, heard, lock_at, lock_tells, locker_locks, mail, member_runs, near_self, near_turned, proceed_step, release_step, sends, shown_at, spread_go, spreading_at}
 
 and_false : (a b : Bool) → a ≡ false → (a && b) ≡ false
@@ -70,19 +62,19 @@ module _ {M : Machine} where
       let nk : NodeOk w m y = h.stand.sound.inv.nodes m y yat in
       let op : y.core.is_open ≡ true = nk.core_open ∙ h.open_ m y lm yat in
       let asks : updating.asks_for y.core r.id.req ≡ true =
-          both (nat_lt 0 (length y.core.queue) && nat_eq r.id.req (y.core.passed + 1)) (is_none y.core.spreading)
-              (both (nat_lt 0 (length y.core.queue)) (nat_eq r.id.req (y.core.passed + 1)) (lt_is 0 (length y.core.queue) some) (eq_is r.id.req (y.core.passed + 1) rq))
-              (ap is_none none) in
+      both (nat_lt 0 (length y.core.queue) && nat_eq r.id.req (y.core.passed + 1)) (is_none y.core.spreading)
+      (both (nat_lt 0 (length y.core.queue)) (nat_eq r.id.req (y.core.passed + 1)) (lt_is 0 (length y.core.queue) some) (eq_is r.id.req (y.core.passed + 1) rq))
+      (ap is_none none) in
       let gr : updating.granted y.core r.id.req r.place ≡ updating.spread y.core r.place 0 =
-          ap (λ (b : Bool). if b then updating.spread y.core r.place 0 else (y.core, if y.core.is_open && updating.has_left y.core r.id.req then decision.ReleaseAgain r.id.req else decision.Nothing)) (both y.core.is_open (updating.asks_for y.core r.id.req) op asks) in
+      ap (λ (b : Bool). if b then updating.spread y.core r.place 0 else (y.core, if y.core.is_open && updating.has_left y.core r.id.req then decision.ReleaseAgain r.id.req else decision.Nothing)) (both y.core.is_open (updating.asks_for y.core r.id.req) op asks) in
       let ev : happens w (Deliver hd.at Written) ≡ absorb m (proceeds y r (updating.spread y.core r.place 0)) w =
-          still_is w (mail v L m (Granted r)) y (proceeds y r (updating.spread y.core r.place 0)) hd yat (heard w v y L m (Granted r) h ll lm yat ∙ ap (λ (t : CoreState × Decision). unlogged (proceeds y r t)) gr) in
+      still_is w (mail v L m (Granted r)) y (proceeds y r (updating.spread y.core r.place 0)) hd yat (heard w v y L m (Granted r) h ll lm yat ∙ ap (λ (t : CoreState × Decision). unlogged (proceeds y r t)) gr) in
       proceed_step law v w0 w m y r 0 l (Deliver hd.at Written) h nr lm ll yat some lk ln lr refl ev
       (λ to rc live.
       let c : NodeState M = spreading_at y r 0 in
       let es : List Effect = Send (packet c to (Apply r)) ∷ [] in
       spread_go (length (spread_of v.members)) law v w0 (turned w w.log m c es) m c (record { place = r.place; at = 0 }) l live (near_turned w0 w m y c es nr yat (omega arith)) lm ll (put_self w.nodes m (Some c)) some refl
-          (shown_same (λ (a : NodeState M). a.core.lock) None w.nodes m y c yat refl L ∙ lk) ln lr (omega arith))
+      (shown_same (λ (a : NodeState M). a.core.lock) None w.nodes m y c yat refl L ∙ lk) ln lr (omega arith))
 
   -- A Granted at the node that finished its request: its Release was lost
   finished_go : IsMachine M → (v : View) (w0 w : World M) (m : ℕ) (y : NodeState M) (r : Entry) (l : Lock) → Live w v → Near w0 w → Held w (mail v (locker_of v.members) m (Granted r)) → 0 < inc_of v.members m → 0 < inc_of v.members (locker_of v.members) → w.nodes m ≡ Some y → 0 < r.id.req → r.id.req ≤ y.core.passed → lock_at w (locker_of v.members) ≡ Some l → l.node ≡ m → l.req ≡ r.id.req → Leads goes_on w (λ u. Freed v w0 m 0 u)
@@ -95,11 +87,11 @@ module _ {M : Machine} where
       let nope : (y.core.is_open && updating.asks_for y.core q) ≡ false = off y.core.is_open (nat_lt 0 (length y.core.queue)) (nat_eq q (y.core.passed + 1)) (is_none y.core.spreading) (eq_not q (y.core.passed + 1) (omega (arith, left))) in
       let yes : (y.core.is_open && updating.has_left y.core q) ≡ true = both y.core.is_open (updating.has_left y.core q) op (both (nat_lt 0 q) (nat_le q y.core.passed) (lt_is 0 q one) (le_is q y.core.passed left)) in
       let gr : updating.granted y.core q r.place ≡ (y.core, decision.ReleaseAgain q) =
-          ap (λ (b : Bool). if b then updating.spread y.core r.place 0 else (y.core, if y.core.is_open && updating.has_left y.core q then decision.ReleaseAgain q else decision.Nothing)) nope
-          ∙ ap (λ (b : Bool). (y.core, if b then decision.ReleaseAgain q else decision.Nothing)) yes in
+      ap (λ (b : Bool). if b then updating.spread y.core r.place 0 else (y.core, if y.core.is_open && updating.has_left y.core q then decision.ReleaseAgain q else decision.Nothing)) nope
+      ∙ ap (λ (b : Bool). (y.core, if b then decision.ReleaseAgain q else decision.Nothing)) yes in
       let es : List Effect = Send (packet y (locker_at y) (Release q)) ∷ [] in
       let ev : happens w (Deliver hd.at Written) ≡ turned w w.log m y es =
-          still_is w (mail v L m (Granted r)) y (becomes y es) hd yat (heard w v y L m (Granted r) h ll lm yat ∙ ap (λ (t : CoreState × Decision). unlogged (proceeds y r t)) gr) in
+      still_is w (mail v L m (Granted r)) y (becomes y es) hd yat (heard w v y L m (Granted r) h ll lm yat ∙ ap (λ (t : CoreState × Decision). unlogged (proceeds y r t)) gr) in
       go law w v (Deliver hd.at Written) w.log m y y es (λ u. Freed v w0 m 0 u) refl h ev yat refl refl
       (λ live.
       let u : World M = turned w w.log m y es in
@@ -185,8 +177,8 @@ module _ {M : Machine} where
       let op : joining.is_open x.join ≡ true = h.open_ L x ll o.1.node in
       let mem : x.core.members ≡ v.members = nk.core_members ∙ ap (λ (t : View). t.members) o.1.view in
       let lks : joining.locks x.join ≡ true =
-          ap (λ (t : View). is_locker t.members x.join.node) o.1.view
-          ∙ ap (λ (a : ℕ). is_locker v.members a) nk.node ∙ locker_locks v.members ll in
+      ap (λ (t : View). is_locker t.members x.join.node) o.1.view
+      ∙ ap (λ (a : ℕ). is_locker v.members a) nk.node ∙ locker_locks v.members ll in
       record {
         node = x;
         runs = o.1;
@@ -248,17 +240,17 @@ module _ {M : Machine} where
       let lx : 0 < inc_of x.core.members m = subst (λ (ms : List Member). 0 < inc_of ms m) (sym ow.members) lm in
       let free : x.core.lock ≡ None = sym (shown_at (λ (t : NodeState M). t.core.lock) None u1 L x xat) ∙ lk1 in
       let low : greatest_of x.core m < q = below (greatest_of x.core m) y.core.passed (λ pos.
-          let r = xc.greatest m lx pos in
-          let ak = (h1.stand.sound.inv.log.asked r.0 r.1).1.asks y (ap u1.nodes r.2.node ∙ y1) (sym (r.2.inc ∙ inc)) in
-          let le : greatest_of x.core m ≤ y.core.passed + 1 = subst (λ (b : ℕ). b ≤ y.core.passed + 1) r.2.req (asked_most y r.0.id.req ak) in
-          (le, λ eq. head_free u1 v m y r.0 h1 lm ll y1 some lk1 r.1 (record { node = r.2.node; inc = r.2.inc ∙ inc; req = r.2.req ∙ eq }))) in
+      let r = xc.greatest m lx pos in
+      let ak = (h1.stand.sound.inv.log.asked r.0 r.1).1.asks y (ap u1.nodes r.2.node ∙ y1) (sym (r.2.inc ∙ inc)) in
+      let le : greatest_of x.core m ≤ y.core.passed + 1 = subst (λ (b : ℕ). b ≤ y.core.passed + 1) r.2.req (asked_most y r.0.id.req ak) in
+      (le, λ eq. head_free u1 v m y r.0 h1 lm ll y1 some lk1 r.1 (record { node = r.2.node; inc = r.2.inc ∙ inc; req = r.2.req ∙ eq }))) in
       let dn : done_of x ≡ length u1.log.order = ow.owner.all_done in
       let rm : done_of x < last_place = subst (λ (b : ℕ). b < last_place) (sym dn) room in
       let may : updating.may_log x.core m q (done_of x) ≡ true = both (nat_lt (greatest_of x.core m) q) (nat_lt (done_of x) last_place) (lt_is (greatest_of x.core m) q low) (lt_is (done_of x) last_place rm) in
       let as_ : updating.asked x.core m q (done_of x) ≡ decision.Write m q =
-          ap (λ (b : Bool). if b then elim x.core.lock [ None ↦ if updating.may_log x.core m q (done_of x) then decision.Write m q else decision.Nothing | Some l ↦ if nat_eq l.node m && nat_eq l.req q then decision.Grant m q l.place else decision.Nothing ] else decision.Nothing) (both x.core.is_open (updating.locks x.core) ow.is_open ow.locks)
-          ∙ ap (λ (o : Option Lock). elim o [ None ↦ if updating.may_log x.core m q (done_of x) then decision.Write m q else decision.Nothing | Some l ↦ if nat_eq l.node m && nat_eq l.req q then decision.Grant m q l.place else decision.Nothing ]) free
-          ∙ ap (λ (b : Bool). if b then decision.Write m q else decision.Nothing) may in
+      ap (λ (b : Bool). if b then elim x.core.lock [ None ↦ if updating.may_log x.core m q (done_of x) then decision.Write m q else decision.Nothing | Some l ↦ if nat_eq l.node m && nat_eq l.req q then decision.Grant m q l.place else decision.Nothing ] else decision.Nothing) (both x.core.is_open (updating.locks x.core) ow.is_open ow.locks)
+      ∙ ap (λ (o : Option Lock). elim o [ None ↦ if updating.may_log x.core m q (done_of x) then decision.Write m q else decision.Nothing | Some l ↦ if nat_eq l.node m && nat_eq l.req q then decision.Grant m q l.place else decision.Nothing ]) free
+      ∙ ap (λ (b : Bool). if b then decision.Write m q else decision.Nothing) may in
       let e : Entry = entry_for x m q a in
       let z : NodeState M = has_logged x e in
       let es2 : List Effect = Send (packet z m (Granted e)) ∷ [] in

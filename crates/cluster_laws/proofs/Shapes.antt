@@ -1,5 +1,5 @@
 -- Each declared view is one: the members that an event declares are in their order.
-use Rattle.std.proofs.Common.{◌≡◌, ◌⊎◌, ⊎_elim, inl, inr, ℕ, ◌+◌, ◌^◌, ◌≤◌, Bool, true, ◌&&◌, List, [], ◌∷◌, ◌++◌, length, Option, Some, None, is_none, nat_le, nat_lt, if◌then◌else◌, refl, sym, ap, ◌∙◌, subst, arith}
+use Rattle.std.proofs.Common.{◌≡◌, ⊎_elim, ℕ, ◌+◌, ◌^◌, ◌≤◌, true, ◌&&◌, List, [], ◌∷◌, ◌++◌, length, Some, None, is_none, nat_le, nat_lt, if◌then◌else◌, sym, subst, arith}
 use Rattle.std.specs.List.{list_all}
 use Rattle.gum_messages.specs.declared.member.Member.{Member}
 use Rattle.gum_messages.specs.declared.view.View.{View}
@@ -8,7 +8,6 @@ use Rattle.gum_messages.specs.Places.{at_place}
 use Rattle.gum_messages.specs.Views.{Ascend, IsView}
 use Rattle.gum_messages.proofs.Branches.{if_cases, option_cases}
 use Rattle.gum_messages.proofs.Placing.{place_push}
-use Rattle.update_records.specs.declared.update.Update.{Update}
 use Rattle.view_reconcile.specs.Joining as joining
 use Rattle.view_reconcile.specs.Chains.{fault_of, view_in}
 use Rattle.cluster_rules.specs.Machines.{Machine}

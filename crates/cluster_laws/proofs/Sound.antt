@@ -1,10 +1,7 @@
 -- What every world of a run has: the invariants of the promises, and those that progress needs besides.
-use Rattle.std.proofs.Common.{◌≡◌, ◌≢◌, ⊎_elim, ℕ, zero, suc, ◌<◌, ◌≤◌, List, [], ◌∷◌, Option, Some, None, slice_get, refl, sym, ap, ◌∙◌, subst}
-use Rattle.gum_messages.specs.Messages.{Sent}
+use Rattle.std.proofs.Common.{◌≡◌, ℕ, zero, suc, List, [], ◌∷◌, Some, slice_get}
 use Rattle.gum_messages.specs.Places.{at_place}
-use Rattle.view_reconcile.specs.Chains.{view_in}
 use Rattle.cluster_rules.specs.Machines.{Machine, IsMachine}
-use Rattle.cluster_rules.specs.Nodes.{NodeState}
 use Rattle.cluster_rules.specs.Worlds.{Event, World, happens, opening, run}
 use Rattle.cluster_laws.proofs.Inv.{Fitting, Invariant}
 use Rattle.cluster_laws.proofs.Fitting.{happens_fits, opening_fits}

@@ -1,7 +1,6 @@
 -- No reachable world is stuck.
-use Rattle.gum_messages.specs.declared.view.View.{View}
-use Rattle.cluster_rules.specs.Machines.{Machine, IsMachine}
 use Rattle.std.proofs.Common.{ℕ, List}
+use Rattle.cluster_rules.specs.Machines.{Machine, IsMachine}
 use Rattle.cluster_rules.specs.Worlds.{Event, World, opening, run}
 use Rattle.cluster_rules.specs.Progress.{Unstuck}
 use Rattle.cluster_laws.proofs.Opens.{stand_served}

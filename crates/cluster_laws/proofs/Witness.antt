@@ -1,16 +1,14 @@
--- The premises are met: a world of two members with an update under way, from which the theorem serves it.
-use Rattle.std.proofs.Common.{◌≡◌, ℕ, ◌+◌, ◌<◌, ◌≤◌, Bool, true, false, List, [], ◌∷◌, length, Option, Some, None, nat_eq, if◌then◌else◌, refl, sym, ap, ◌∙◌, subst, arith}
-use Rattle.gum_messages.specs.declared.member.Member.{Member}
+-- The premises of progress are met: a world of two members with three updates queued, from which the law serves them.
+use Rattle.std.proofs.Common.{◌≡◌, ℕ, ◌<◌, Bool, true, false, List, [], ◌∷◌, Option, Some, None, nat_eq, if◌then◌else◌, refl, subst, arith}
 use Rattle.gum_messages.specs.declared.view.View.{View}
 use Rattle.gum_messages.specs.Members.{inc_of}
-use Rattle.gum_messages.specs.Views.{Ascend, IsView}
 use Rattle.update_records.specs.declared.update.Update.{Update}
 use Rattle.update_records.specs.Limits.{IsUpdate}
 use Rattle.view_reconcile.specs.Joining as joining
 use Rattle.cluster_rules.specs.Nodes.{NodeState}
 use Rattle.cluster_rules.specs.Updates.{Written}
-use Rattle.cluster_rules.specs.Worlds.{Declare, Deliver, Event, Install, Recovered, Start, Submit, Tick, World, opening, run}
-use Rattle.cluster_rules.specs.Progress.{Leads, Runs, Served, Standing, goes_on, has_room}
+use Rattle.cluster_rules.specs.Worlds.{Declare, Deliver, Event, Install, Recovered, Start, Submit, World, opening, run}
+use Rattle.cluster_rules.specs.Progress.{Leads, Served, Standing, goes_on}
 use Rattle.cluster_rules.proofs.Scripts.{tally, tally_is_machine}
 use Rattle.cluster_laws.proofs.Applying.{eq_true}
 use Rattle.cluster_laws.proofs.Standing.{all_unstuck}
@@ -53,3 +51,10 @@ module _ (u : Update) (valid : IsUpdate u) where
   -- three updates are queued, one is logged: all are served
   pub three_served : Leads goes_on here (λ t. Served t two)
   three_served = all_unstuck tally tally_is_machine 4096 events tt two standing (omega arith)
+
+-- A view that has a node twice would wait for nobody and never open; it isn't declared.
+abbrev twice : View
+twice = record { number = 1; members = record { node = 1; inc = 1 } ∷ record { node = 1; inc = 1 } ∷ [] }
+
+pub twice_refused : (run (Start 1 ∷ Declare twice ∷ []) (opening tally 4096)).chain ≡ []
+twice_refused = refl

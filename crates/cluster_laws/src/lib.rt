@@ -6,13 +6,13 @@
 
 mod progress;
 
-pub use progress::{monotone, unstuck};
-
 ghost use Rattle.std.specs.Prelude.{◌≡◌, ◌++◌, ℕ, Bool, List};
 ghost use Rattle.cluster_rules.specs.Machines.{Machine, IsMachine};
 ghost use Rattle.cluster_rules.specs.Promises.{Answered, Kept, Recovers, Safe, Steady};
 ghost use Rattle.update_records.specs.Entry.{Entry};
 ghost use Rattle.cluster_rules.specs.Worlds.{Event, opening, run};
+
+pub use progress::{monotone, unstuck};
 
 /// What can be replicated: a deterministic state machine that reads back from its bytes. The laws speak of logs of a
 /// capacity that the machine allows.

@@ -76,12 +76,18 @@ pub record Leads {M : Machine} (kind : Event → Bool) (w : World M) (Q : World 
 abbrev pub Unstuck : {M : Machine} → World M → Type 0
 Unstuck w = (v : View) → Standing w v → has_room w v → Leads goes_on w (λ u. Served u v)
 
+-- A node pulls on: what it had is the beginning of what it has.
+pub record PullsOn {M : Machine} (x y : NodeState M) (got : ℕ) : Type 0 where
+  pub more : List ℕ
+  pub count : joining.pulled_bytes y.join ≡ Some (got + length more)
+  pub bytes : y.bytes ≡ x.bytes ++ more
+
 -- A node goes on in its view: nothing that it had is taken back.
 pub record Advances {M : Machine} (x y : NodeState M) : Type 0 where
   pub view : y.join.view ≡ x.join.view
   pub records : done_of x ≤ done_of y
   -- What it pulled stays until it is ready.
-  pub pulled : (got : ℕ) → joining.pulled_bytes x.join ≡ Some got → (joining.is_ready y.join ≡ true) ⊎ ((more : List ℕ) × (joining.pulled_bytes y.join ≡ Some (got + length more)) × (y.bytes ≡ x.bytes ++ more))
+  pub pulled : (got : ℕ) → joining.pulled_bytes x.join ≡ Some got → (joining.is_ready y.join ≡ true) ⊎ PullsOn x y got
   pub ready : joining.is_ready x.join ≡ true → joining.is_ready y.join ≡ true
   pub marks : (m : ℕ) → joining.is_marked x.join m ≡ true → joining.is_marked y.join m ≡ true
   pub opened : joining.is_open x.join ≡ true → joining.is_open y.join ≡ true
@@ -89,7 +95,10 @@ pub record Advances {M : Machine} (x y : NodeState M) : Type 0 where
   pub finished : x.core.passed ≤ y.core.passed
   pub queued : y.core.passed + length y.core.queue ≡ x.core.passed + length x.core.queue
 
--- Progress isn't taken back: where a message is delivered or a node ticks, each node goes on, or it stops since a later
--- view has claimed the log.
+-- A node goes on, or it stops since a later view has claimed the log.
+abbrev pub Onward : {M : Machine} → ℕ → NodeState M → Option (NodeState M) → Type 0
+Onward {M} held x after = ((y : NodeState M) × (after ≡ Some y) × Advances x y) ⊎ ((after ≡ None) × (number_of x < held))
+
+-- Progress isn't taken back where a message is delivered or a node ticks.
 abbrev pub Monotone : {M : Machine} → World M → Type 0
-Monotone {M} w = (e : Event) (n : ℕ) (x : NodeState M) → goes_on e ≡ true → w.nodes n ≡ Some x → ((y : NodeState M) × ((happens w e).nodes n ≡ Some y) × Advances x y) ⊎ (((happens w e).nodes n ≡ None) × (number_of x < w.log.held))
+Monotone {M} w = (e : Event) (n : ℕ) (x : NodeState M) → goes_on e ≡ true → w.nodes n ≡ Some x → Onward w.log.held x ((happens w e).nodes n)
