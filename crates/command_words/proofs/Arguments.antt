@@ -1,6 +1,7 @@
 -- What clap makes of the words behind a name whose subcommand needs none, one or two of them.
-use Rattle.std.proofs.Common.{◌≡◌, ◌&&◌, ◌||◌, ℕ, Bool, true, false, List, [], ◌∷◌, Some, None, refl}
+use Rattle.std.proofs.Common.{◌≡◌, ℕ, true, false, List, [], ◌∷◌, Some, None, refl}
 use Rattle.std.specs.Str.{bytes_eq}
+use Rattle.std.proofs.Math.Bool.{and-false, or-false}
 use Rattle.std.proofs.lemmas.Slice.Eq.{bytes_eq-Decides}
 use Rattle.clap.specs.Words.{Kinds, Row, Rule, Shape, Text}
 use Rattle.clap.specs.declared.error.kind.ErrorKind.TheVariants.{UnknownArgument, MissingRequiredArgument}
@@ -37,14 +38,6 @@ walk_end s w = refl
 same : (id : Text) → bytes_eq id id ≡ true
 same id = (bytes_eq-Decides id id).1 refl
 
-and_false : (b : Bool) → (b && false) ≡ false
-and_false true = refl
-and_false false = refl
-
-or_false : (b : Bool) → (b || false) ≡ b
-or_false true = refl
-or_false false = refl
-
 -- ---- none
 
 pub none_0 : (name : Text) → level_fault (leaf name []) [] nothing_held [] false [] ≡ []
@@ -74,7 +67,7 @@ unfolding defaults_fault
 one_1 name a w p0 =
     let s = leaf name (rule a ∷ []) in
     let h1 = after s 1 w nothing_held in
-    rw (plain_turn s nothing_held 1 w [] p0, walk_end s (at h1 2), plain_walked s.rules nothing_held 1 w p0) (simp (same a, and_false, or_false) refl)
+    rw (plain_turn s nothing_held 1 w [] p0, walk_end s (at h1 2), plain_walked s.rules nothing_held 1 w p0) (simp (same a, and-false, or-false) refl)
 
 pub one_1_rows : (name a w : Text) → IsPlain w → rows_at (leaf name (rule a ∷ [])) (w ∷ []) ≡ (name, row a w ∷ [])
 one_1_rows name a w p0 =
@@ -100,7 +93,7 @@ unfolding defaults_fault
 two_1 name a b w ab p0 =
     let s = leaf name (rule a ∷ rule b ∷ []) in
     let h1 = after s 1 w nothing_held in
-    rw (plain_turn s nothing_held 1 w [] p0, walk_end s (at h1 2), plain_walked s.rules nothing_held 1 w p0) (simp (same a, ab, and_false, or_false) refl)
+    rw (plain_turn s nothing_held 1 w [] p0, walk_end s (at h1 2), plain_walked s.rules nothing_held 1 w p0) (simp (same a, ab, and-false, or-false) refl)
 
 pub two_2 : (name a b w v : Text) → bytes_eq a b ≡ false → IsPlain w → IsPlain v → level_fault (leaf name (rule a ∷ rule b ∷ [])) [] nothing_held (w ∷ v ∷ []) false [] ≡ []
 unfolding defaults_fault
@@ -109,7 +102,7 @@ two_2 name a b w v ab p0 p1 =
     let h1 = after s 1 w nothing_held in
     let h2 = after s 2 v h1 in
     rw (plain_turn s nothing_held 1 w (v ∷ []) p0, plain_turn s h1 2 v [] p1, walk_end s (at h2 3), plain_walked s.rules nothing_held 1 w p0, plain_walked s.rules h1 2 v p1)
-    (simp (same a, same b, ab, and_false, or_false) refl)
+    (simp (same a, same b, ab, and-false, or-false) refl)
 
 pub two_2_rows : (name a b w v : Text) → bytes_eq a b ≡ false → IsPlain w → IsPlain v → rows_at (leaf name (rule a ∷ rule b ∷ [])) (w ∷ v ∷ []) ≡ (name, row a w ∷ row b v ∷ [])
 two_2_rows name a b w v ab p0 p1 =

@@ -1,6 +1,7 @@
--- What clap makes of each form.
-use Rattle.std.proofs.Common.{◌≡◌, ◌∙◌, ◌&&◌, Bool, true, false, List, [], ◌∷◌, fold, Some, None, codes, refl, ap, sym, find}
+-- What clap makes of the first word: a name passes the words behind it to its subcommand, and any other word is refused.
+use Rattle.std.proofs.Common.{◌≡◌, ◌∙◌, true, false, List, [], ◌∷◌, fold, Some, None, codes, refl, ap, sym, find}
 use Rattle.std.specs.Str.{bytes_eq}
+use Rattle.std.proofs.Math.Bool.{and-false}
 use Rattle.clap.specs.Words.{Kinds, Shape, Text, built, fault_of, is_simple, subcommand_of}
 use Rattle.clap.specs.Kinds.{or_else}
 use Rattle.clap.specs.declared.error.kind.ErrorKind.TheVariants.{InvalidSubcommand, UnknownArgument}
@@ -25,12 +26,15 @@ above = (built program).top
 abbrev pub names : List (Text × List Text)
 names = names_of (built program)
 
+-- The walk that stopped at a name, with the words behind it.
 abbrev pub entering : Text → List Text → Walk
 entering name args = record (walk_from nothing_held) { stopped = Some (name, args) }
 
 last_none : (a : Kinds) → or_else a [] ≡ a
 last_none [] = refl
 last_none (k ∷ ks) = refl
+
+-- ---- a name
 
 first_word : (name : Text) → subcommand_met names idle name ≡ Some name → walked above.rules names (walk_from nothing_held) name ≡ entering name []
 unfolding walked
@@ -40,13 +44,9 @@ enters : (name : Text) (args : List Text) → subcommand_met names idle name ≡
 enters name args met =
     ap (λ (w : Walk). fold (walked above.rules names) w args) (first_word name met) ∙ sym (walk_stopped above.rules names (walk_from nothing_held) name [] args)
 
-and_false : (b : Bool) → (b && false) ≡ false
-and_false true = refl
-and_false false = refl
-
 passes : (name : Text) (args : List Text) → subcommand_met names idle name ≡ Some name → walk_fault above names (walk_from nothing_held) (name ∷ args) ≡ []
 unfolding walk_fault
-passes name args met = rw (met, and_false (bytes_eq name (codes "help")), first_word name met, stopped_fault above names (walk_from nothing_held) (name, []) args) refl
+passes name args met = rw (met, and-false (bytes_eq name (codes "help")), first_word name met, stopped_fault above names (walk_from nothing_held) (name, []) args) refl
 
 pub level_below : (name : Text) (s : Shape) (args : List Text) → subcommand_met names idle name ≡ Some name → find (λ s. answers_to name (label_of s)) (built program).subs ≡ Some s
     → fault_of program (name ∷ args) ≡ level_fault s [] nothing_held args false []
@@ -58,10 +58,11 @@ pub rows_below : (name : Text) (s : Shape) (args : List Text) → subcommand_met
     → subcommand_of program (name ∷ args) ≡ Some (rows_at s args)
 rows_below name s args met sub = rw (enters name args met, sub) refl
 
+-- ---- another word
+
 refused : (word : Text) (args : List Text) → subcommand_met names idle word ≡ None → IsPlain word → walk_fault above names (walk_from nothing_held) (word ∷ args) ≡ UnknownArgument ∷ InvalidSubcommand ∷ []
 unfolding walk_fault
 refused word args none plain = rw (no_flag above.rules names 1 word nothing_held none plain, no_fault above names word nothing_held none plain) refl
 
--- A word that is no subcommand's name is refused.
 pub unknown : (word : Text) (args : List Text) → subcommand_met names idle word ≡ None → IsPlain word → fault_of program (word ∷ args) ≡ UnknownArgument ∷ InvalidSubcommand ∷ []
 unknown word args none plain = rw (refused word args none plain) refl
