@@ -3,10 +3,9 @@ pub mod BadLogs
 pub mod DoorLaws
 pub mod DrainLaws
 pub mod FewContexts
-pub mod NumberLaws
+pub mod FormatLaws
 pub mod OpenLaws
 pub mod ServeLaws
 pub mod ServingLaws
 pub mod SessionLaws
 pub mod ShowLaws
-pub mod WordLaws
