@@ -1,17 +1,18 @@
 -- The words ask for one command, which ends as it may.
-use Rattle.std.proofs.Common.{◌≡◌, ℕ, List, [], ◌∷◌, codes, Option, get_or, refl, sym, ap, ◌∙◌, inl, inr, arith}
+use Rattle.std.proofs.Common.{◌≡◌, ℕ, List, Option, Some, refl, inl, inr, subst}
 use Rattle.causes.specs.Counts.{Rose}
+use Rattle.command_words.specs.Commands.{Asked, Asks, format, serve, session, showlog}
 use Rattle.clus_cli.specs.declared.status.Status.{Status}
 use Rattle.clus_cli.specs.declared.status.Status.TheVariants as statuses
-use Rattle.clus_cli.specs.Commands.{AsksFormat, AsksServe, AsksServeOf, AsksSession, FormatEnds, FormatRuns}
+use Rattle.clus_cli.specs.Commands.{FormatEnds, FormatRuns}
 use Rattle.clus_cli.specs.Doors.{ServeEnds}
-use Rattle.clus_cli.specs.Ends.{Ends, MayEnd, Outside, format, serve, session, showlog}
+use Rattle.clus_cli.specs.Ends.{Ends, MayEnd, Outside}
 use Rattle.clus_cli.specs.Session.{SessionEnds}
-use Rattle.clus_cli.specs.Showlog.{AsksShowlog, Prints, Refuses, ShowRuns}
+use Rattle.clus_cli.specs.Showlog.{Prints, Refuses, ShowRuns}
 
--- ---- one status
+-- ---- one command
 
-session_may : (status : Status) (v w : Outside) → SessionEnds status → (status ≡ statuses.ReadFault → Rose v.reads w.reads) → (status ≡ statuses.WriteFault → Rose v.writes w.writes) → MayEnd session status v w
+pub session_may : (status : Status) (v w : Outside) → SessionEnds status → (status ≡ statuses.ReadFault → Rose v.reads w.reads) → (status ≡ statuses.WriteFault → Rose v.writes w.writes) → MayEnd session status v w
 session_may statuses.Done v w ends read write = tt
 session_may statuses.ReadFault v w ends read write = read refl
 session_may statuses.WriteFault v w ends read write = write refl
@@ -31,13 +32,13 @@ serve_may address count statuses.DiskFault v w ends accept = absurd ends
 serve_may address count (statuses.BadLog place) v w ends accept = absurd ends
 serve_may address count (statuses.Fenced held) v w ends accept = absurd ends
 
-format_may : (most : ℕ) (status : Status) (v w : Outside) → FormatEnds v.disk status w.disk → MayEnd (format most) status v w
+pub format_may : (most : ℕ) (status : Status) (v w : Outside) → FormatEnds v.disk status w.disk → MayEnd (format most) status v w
 format_may most statuses.Done v w ends = tt
 format_may most statuses.DiskFault v w ends = ends.1
 format_may most (statuses.Fenced held) v w ends = ends
 format_may most statuses.ReadFault v w ends = absurd ends
 format_may most statuses.WriteFault v w ends = absurd ends
-format_may most statuses.NoMemory v w ends = absurd ends
+format_may most statuses.NoMemory v w ends = tt
 format_may most statuses.Usage v w ends = absurd ends
 format_may most (statuses.BadLog place) v w ends = absurd ends
 
@@ -62,52 +63,48 @@ printed_may before text statuses.Usage now v w prints write = absurd prints
 printed_may before text (statuses.BadLog place) now v w prints write = absurd prints
 printed_may before text (statuses.Fenced held) now v w prints write = absurd prints
 
--- ---- one command
-
-other_word : codes "session" ∷ [] ≡ codes "showlog" ∷ [] → ⊥
-other_word is =
-    let second : 101 ≡ 104 = ap (λ (words : List (List ℕ)). get_or (get_or words 0 []) 1 0) is in
-    absurd (omega (arith, second))
-
-pub session_ends : (words : List (List ℕ)) (status : Status) (v w : Outside) → AsksSession words → SessionEnds status
-    → (status ≡ statuses.ReadFault → Rose v.reads w.reads) → (status ≡ statuses.WriteFault → Rose v.writes w.writes) → Ends words status v w
-unfolding Ends
-session_ends words status v w is ends read write session asks = session_may status v w ends read write
-session_ends words status v w is ends read write (serve address count) asks = absurd (cc (is, asks.0))
-session_ends words status v w is ends read write (format most) asks = absurd (cc (is, asks.0))
-session_ends words status v w is ends read write showlog asks = absurd (other_word (sym is ∙ asks))
-
-pub serve_ends : (words : List (List ℕ)) (count : ℕ) (status : Status) (v w : Outside) → AsksServeOf words count → ServeEnds status
-    → (status ≡ statuses.ReadFault → Rose v.accepts w.accepts) → Ends words status v w
-unfolding Ends
-serve_ends words count status v w (address, is) ends accept session asks = absurd (cc (is.0, asks))
-serve_ends words count status v w (address, is) ends accept (serve other number) asks = serve_may other number status v w ends accept
-serve_ends words count status v w (address, is) ends accept (format most) asks = absurd (cc (is.0, asks.0))
-serve_ends words count status v w (address, is) ends accept showlog asks = absurd (cc (is.0, asks))
-
-pub format_ends : (words : List (List ℕ)) (cap : ℕ) (status : Status) (v w : Outside) → AsksFormat words cap → FormatRuns cap v.disk status w.disk → Ends words status v w
-unfolding Ends
-format_ends words cap status v w is runs session asks = absurd (cc (is.0, asks))
-format_ends words cap status v w is runs (serve address count) asks = absurd (cc (is.0, asks.0))
-format_ends words cap status v w is runs (format other) asks = format_may other status v w runs.ends
-format_ends words cap status v w is runs showlog asks = absurd (cc (is.0, asks))
-
-pub showlog_ends : (words : List (List ℕ)) (before now : Option (List ℕ)) (status : Status) (v w : Outside) → AsksShowlog words → ShowRuns v.disk before status w.disk now
-    → (status ≡ statuses.WriteFault → Rose v.writes w.writes) → Ends words status v w
-unfolding Ends
-showlog_ends words before now status v w is runs write session asks = absurd (other_word (sym asks ∙ is))
-showlog_ends words before now status v w is runs write (serve address count) asks = absurd (cc (is, asks.0))
-showlog_ends words before now status v w is runs write (format most) asks = absurd (cc (is, asks.0))
-showlog_ends words before now status v w is runs write showlog asks =
+pub showlog_may : (before now : Option (List ℕ)) (status : Status) (v w : Outside) → ShowRuns v.disk before status w.disk now
+    → (status ≡ statuses.WriteFault → Rose v.writes w.writes) → MayEnd showlog status v w
+showlog_may before now status v w runs write =
     elim runs.ends [
       | inl refused ↦ refused_may status v w refused.why
       | inr shown ↦ printed_may before _ status now v w shown.prints write
     ]
 
-pub no_command_ends : (words : List (List ℕ)) (status : Status) (v w : Outside) → ¬ AsksSession words → ((address : List ℕ) (count : ℕ) → ¬ AsksServe words address count)
-    → ((cap : ℕ) → ¬ AsksFormat words cap) → ¬ AsksShowlog words → Ends words status v w
+memory_may : (asked : Asked) (v w : Outside) → MayEnd asked statuses.NoMemory v w
+memory_may session v w = tt
+memory_may (serve address count) v w = tt
+memory_may (format most) v w = tt
+memory_may showlog v w = tt
+
+-- ---- the words
+
+abbrev pub IsServe : Asked → Type 0
+IsServe session = ⊥
+IsServe (serve address count) = Unit {0}
+IsServe (format most) = ⊥
+IsServe showlog = ⊥
+
+pub serves : (address : List ℕ) (count : ℕ) (other : Asked) → Some (serve address count) ≡ Some other → IsServe other
+serves address count other is = let same : serve address count ≡ other = cc is in subst (λ (a : Asked). IsServe a) same tt
+
+pub command_ends : (words : List (List ℕ)) (asked : Asked) (status : Status) (v w : Outside) → ((other : Asked) → Asks words other → Some asked ≡ Some other) → MayEnd asked status v w → Ends words status v w
 unfolding Ends
-no_command_ends words status v w a b c d session asks = absurd (a asks)
-no_command_ends words status v w a b c d (serve address count) asks = absurd (b address count asks)
-no_command_ends words status v w a b c d (format most) asks = absurd (c most asks)
-no_command_ends words status v w a b c d showlog asks = absurd (d asks)
+command_ends words asked status v w only may other asks = let same : asked ≡ other = cc (only other asks) in subst (λ (a : Asked). MayEnd a status v w) same may
+
+-- `serve` ends in the same ways for each address.
+pub serve_ends : (words : List (List ℕ)) (status : Status) (v w : Outside) → ((other : Asked) → Asks words other → IsServe other) → ServeEnds status
+    → (status ≡ statuses.ReadFault → Rose v.accepts w.accepts) → Ends words status v w
+unfolding Ends
+serve_ends words status v w only ends accept session asks = absurd (only session asks)
+serve_ends words status v w only ends accept (serve address count) asks = serve_may address count status v w ends accept
+serve_ends words status v w only ends accept (format most) asks = absurd (only (format most) asks)
+serve_ends words status v w only ends accept showlog asks = absurd (only showlog asks)
+
+pub memory_ends : (words : List (List ℕ)) (v w : Outside) → Ends words statuses.NoMemory v w
+unfolding Ends
+memory_ends words v w asked asks = memory_may asked v w
+
+pub no_command_ends : (words : List (List ℕ)) (status : Status) (v w : Outside) → ((asked : Asked) → ¬ Asks words asked) → Ends words status v w
+unfolding Ends
+no_command_ends words status v w none asked asks = absurd (none asked asks)

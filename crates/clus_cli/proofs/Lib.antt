@@ -3,11 +3,10 @@ pub mod BadLogs
 pub mod DoorLaws
 pub mod DrainLaws
 pub mod EndLaws
-pub mod NumberLaws
+pub mod FormatLaws
 pub mod OpenLaws
 pub mod RoomLaws
 pub mod ServeLaws
 pub mod ServingLaws
 pub mod SessionLaws
 pub mod ShowLaws
-pub mod WordLaws

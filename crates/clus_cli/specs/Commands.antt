@@ -1,6 +1,5 @@
--- The words of each command, and what `format` comes to.
-use Rattle.std.specs.Prelude.{◌≡◌, ℕ, ◌<◌, ◌≤◌, IsTrue, List, [], ◌∷◌, codes, slice_index}
-use Rattle.std.specs.Fmt.{decimal}
+-- What the words ask for, and what `format` comes to.
+use Rattle.std.specs.Prelude.{◌≡◌, ℕ, ◌<◌, ◌≤◌, IsTrue, List}
 use Rattle.causes.specs.Counts.{Rose}
 use Rattle.registry_defs.specs.Keys.{root_alone}
 use Rattle.registry_defs.specs.Spelling.{registry_text}
@@ -8,39 +7,36 @@ use Rattle.disk_core.specs.Images.{EachImage}
 use Rattle.disk_core.specs.Views.{DiskView, Passes}
 use Rattle.quorum_log.specs.Image.{Holds}
 use Rattle.quorum_log.specs.Formats.{empty_log, IsInFormat}
+use Rattle.command_words.specs.Commands.{Asks}
+use Rattle.command_words.specs.Commands as commands
 use Rattle.clus_cli.specs.declared.status.Status.{Status}
 use Rattle.clus_cli.specs.declared.status.Status.TheVariants as statuses
 
 abbrev pub AsksSession : List (List ℕ) → Type 0
-AsksSession words = words ≡ codes "session" ∷ []
+AsksSession words = Asks words commands.session
 
--- The address is any word that isn't an option.
-abbrev pub IsAddress : List ℕ → Type 0
-IsAddress address = ¬ (slice_index address 0 ≡ 45)
-
--- How many connections may be asked for.
-abbrev pub IsCount : ℕ → Type 0
-IsCount count = (0 < count) × (count ≤ 65_535)
-
--- Numbers are written in decimal, without a sign or a leading zero.
 abbrev pub AsksServe : List (List ℕ) → List ℕ → ℕ → Type 0
-AsksServe words address count = (words ≡ codes "serve" ∷ address ∷ decimal count ∷ []) × IsAddress address × IsCount count
-
-abbrev pub AsksServeOf : List (List ℕ) → ℕ → Type 0
-AsksServeOf words count = (address : List ℕ) × AsksServe words address count
+AsksServe words address count = Asks words (commands.serve address count)
 
 abbrev pub AsksSomeServe : List (List ℕ) → Type 0
-AsksSomeServe words = (count : ℕ) × AsksServeOf words count
-
--- The greatest sizes that a registry may be given, in bytes.
-abbrev pub IsCap : ℕ → Type 0
-IsCap cap = (4096 ≤ cap) × (cap ≤ 16_777_216)
+AsksSomeServe words = (count : ℕ) × (address : List ℕ) × AsksServe words address count
 
 abbrev pub AsksFormat : List (List ℕ) → ℕ → Type 0
-AsksFormat words cap = (words ≡ codes "format" ∷ decimal cap ∷ []) × IsCap cap
+AsksFormat words cap = Asks words (commands.format cap)
 
 abbrev pub AsksSomeFormat : List (List ℕ) → Type 0
 AsksSomeFormat words = (cap : ℕ) × AsksFormat words cap
+
+abbrev pub AsksShowlog : List (List ℕ) → Type 0
+AsksShowlog words = Asks words commands.showlog
+
+-- The words are no command.
+abbrev pub AsksNothing : List (List ℕ) → Type 0
+AsksNothing words = ¬ AsksSession words × ¬ AsksSomeServe words × ¬ AsksSomeFormat words × ¬ AsksShowlog words
+
+-- Memory ran out before the command was known, and this is as it was.
+abbrev pub IsUnbegun : {A : Type 0} → Status → A → A → Type 0
+IsUnbegun status before now = (status ≡ statuses.NoMemory) × (now ≡ before)
 
 -- The state of a new log: the encoding of the empty registry.
 unfoldable pub empty_registry : List ℕ

@@ -2,22 +2,10 @@
 use Rattle.std.specs.Prelude.{◌≡◌, ℕ, ◌<◌, IsTrue, List}
 use Rattle.causes.specs.Counts.{Rose}
 use Rattle.disk_core.specs.Views.{DiskView}
+use Rattle.command_words.specs.Commands.{Asked, Asks, format, serve, session, showlog}
 use Rattle.clus_cli.specs.declared.status.Status.{Status}
 use Rattle.clus_cli.specs.declared.status.Status.TheVariants as statuses
-use Rattle.clus_cli.specs.Commands.{AsksFormat, AsksServe, AsksSession}
-use Rattle.clus_cli.specs.Showlog.{AsksShowlog, IsBadLog}
-
-pub data Asked : Type 0 where
-  session : Asked
-  serve : List ℕ → ℕ → Asked
-  format : ℕ → Asked
-  showlog : Asked
-
-abbrev pub Asks : List (List ℕ) → Asked → Type 0
-Asks words session = AsksSession words
-Asks words (serve address count) = AsksServe words address count
-Asks words (format cap) = AsksFormat words cap
-Asks words showlog = AsksShowlog words
+use Rattle.clus_cli.specs.Showlog.{IsBadLog}
 
 -- How many calls of each kind failed so far, and what the disk shows.
 pub record Outside : Type 0 where
@@ -59,6 +47,7 @@ MayEnd (serve address count) statuses.ReadFault v w = FailedAccept v w
 MayEnd (serve address count) statuses.NoMemory v w = Unit {0}
 MayEnd (format cap) statuses.Done v w = Unit {0}
 MayEnd (format cap) statuses.DiskFault v w = FailedDisk v w
+MayEnd (format cap) statuses.NoMemory v w = Unit {0}
 MayEnd (format cap) (statuses.Fenced held) v w = HoldsGreater v held
 MayEnd showlog statuses.Done v w = Unit {0}
 MayEnd showlog statuses.WriteFault v w = FailedWrite v w

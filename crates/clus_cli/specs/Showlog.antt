@@ -22,9 +22,6 @@ use Rattle.log_contents.specs.Faults.{IsFaultAt}
 use Rattle.clus_cli.specs.declared.status.Status.{Status}
 use Rattle.clus_cli.specs.declared.status.Status.TheVariants as statuses
 
-abbrev pub AsksShowlog : List (List ℕ) → Type 0
-AsksShowlog words = words ≡ codes "showlog" ∷ []
-
 -- ---- the lines
 
 unfoldable pub form_text : Found → List ℕ

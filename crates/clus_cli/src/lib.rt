@@ -7,8 +7,6 @@ mod running;
 mod serving;
 mod showing;
 mod status;
-mod words;
 
 pub use running::run;
 pub use status::Status;
-pub use words::serve_count;

@@ -3,19 +3,20 @@
 ghost use Rattle.std.specs.Prelude.{◌≡◌, ◌≢◌, ◌<◌, ◌≤◌, ◌↔◌, ◌⊎◌, ℕ, List, map, IfSome, string_bytes};
 ghost use Rattle.causes.specs.Counts.{Rose};
 ghost use Rattle.edge_io.specs.Visits.{Tells};
-ghost use Rattle.clus_cli.specs.Commands.{AsksSession, AsksServe, AsksSomeServe, AsksFormat, AsksSomeFormat, IsCap, FormatRuns};
+ghost use Rattle.command_words.specs.Commands.{IsCap};
+ghost use Rattle.clus_cli.specs.Commands.{AsksSession, AsksServe, AsksSomeServe, AsksFormat, AsksSomeFormat, AsksShowlog, AsksNothing, FormatRuns, IsUnbegun};
 ghost use Rattle.clus_cli.specs.Ends.{Ends, outside};
 ghost use Rattle.clus_cli.specs.Serving.{Serves};
 ghost use Rattle.clus_cli.specs.Session.{SessionEnds, Writes};
-ghost use Rattle.clus_cli.specs.Showlog.{AsksShowlog, ShowRuns};
+ghost use Rattle.clus_cli.specs.Showlog.{ShowRuns};
 
 use crate::connection::{NODE, drain};
 use crate::piece::{Taken, take_piece};
 use crate::serving::serve;
 use crate::showing::show_log;
 use crate::status::Status;
-use crate::words::{format_cap, is_session, is_showlog, serve_count};
 use clus_registry::EMPTY_STATE;
+use command_words::{Command, command_of};
 use disk_core::{Disk, DiskFault};
 use edge_io::{Door, Failed, Sink, Source, write_whole};
 use quorum_log::format;
@@ -29,8 +30,8 @@ use std::alloc::{AllocError, Global};
 /// `session` reads one recorded client stream, piece by piece, and writes the answers to the items of
 /// each piece before it reads the next. `serve ADDR COUNT` does so for COUNT connections of the door at
 /// most, one after another; they share one registry. `format CAP` makes an empty log for a registry of
-/// at most CAP bytes, also over an old log. `showlog` prints the log.
-#[tactic(auto, using(crate::proofs::EndLaws::session_ends, crate::proofs::EndLaws::format_ends, crate::proofs::EndLaws::no_command_ends))]
+/// at most CAP bytes, also over an old log. `showlog` prints the log. Where memory runs out before the
+/// command is known, nothing is touched.
 pub fn run<S: Source, K: Sink, D: Disk, G: Door>(
     alloc: Global,
     words: &[String],
@@ -44,10 +45,15 @@ pub fn run<S: Source, K: Sink, D: Disk, G: Door>(
         (outside (S.faults input.old) (K.faults output.old) (G.faults door.old).accept (D.view disk.old))
         (outside (S.faults input.new) (K.faults output.new) (G.faults door.new).accept (D.view disk.new)) }
     ensures session { AsksSession (map string_bytes words.now) → IfSome (S.left input.old) (λ bytes. Writes bytes (S.left input.new) (K.written output.old) (K.written output.new) result) }
-    ensures serve { (address : List ℕ) (count : ℕ) → AsksServe (map string_bytes words.now) address count → Tells (G.visits door.old) (G.visits door.new) (Serves count result) }
-    ensures format { (cap : ℕ) → AsksFormat (map string_bytes words.now) cap → FormatRuns cap (D.view disk.old) result (D.view disk.new) }
-    ensures showlog { AsksShowlog (map string_bytes words.now) → ShowRuns (D.view disk.old) (K.written output.old) result (D.view disk.new) (K.written output.new) }
-    ensures usage { (result ≡ Status.Usage) ↔ (¬ AsksSession (map string_bytes words.now) × ¬ AsksSomeServe (map string_bytes words.now) × ¬ AsksSomeFormat (map string_bytes words.now) × ¬ AsksShowlog (map string_bytes words.now)) }
+    ensures serve { (address : List ℕ) (count : ℕ) → AsksServe (map string_bytes words.now) address count →
+        Tells (G.visits door.old) (G.visits door.new) (Serves count result) ⊎ IsUnbegun result (G.visits door.old) (G.visits door.new) }
+    ensures format { (cap : ℕ) → AsksFormat (map string_bytes words.now) cap →
+        FormatRuns cap (D.view disk.old) result (D.view disk.new) ⊎ IsUnbegun result (D.view disk.old) (D.view disk.new) }
+    ensures showlog { AsksShowlog (map string_bytes words.now) →
+        ShowRuns (D.view disk.old) (K.written output.old) result (D.view disk.new) (K.written output.new)
+        ⊎ (IsUnbegun result (D.view disk.old) (D.view disk.new) × (K.written output.new ≡ K.written output.old)) }
+    ensures usage { result ≡ Status.Usage → AsksNothing (map string_bytes words.now) }
+    ensures nothing { AsksNothing (map string_bytes words.now) → (result ≡ Status.Usage) ⊎ (result ≡ Status.NoMemory) }
     ensures unread { ¬ AsksSession (map string_bytes words.now) → S.left input.new ≡ S.left input.old }
     ensures silent { ¬ AsksSession (map string_bytes words.now) → ¬ AsksShowlog (map string_bytes words.now) → K.written output.new ≡ K.written output.old }
     ensures untouched { ¬ AsksSomeFormat (map string_bytes words.now) → ¬ AsksShowlog (map string_bytes words.now) → D.view disk.new ≡ D.view disk.old }
@@ -56,20 +62,21 @@ pub fn run<S: Source, K: Sink, D: Disk, G: Door>(
     ensures accept { AsksSomeServe (map string_bytes words.now) → result ≡ Status.ReadFault → Rose (G.faults door.old).accept (G.faults door.new).accept }
     ensures write { result ≡ Status.WriteFault → Rose (K.faults output.old) (K.faults output.new) }
     ensures disk { result ≡ Status.DiskFault → Rose (D.view disk.old).faults (D.view disk.new).faults }
-    ensures fenced { (held : ℕ) → (result ≡ Status.Fenced held) ↔ ((AsksSomeFormat (map string_bytes words.now) ⊎ AsksShowlog (map string_bytes words.now)) × (1 < (D.view disk.old).current.held) × (held ≡ (D.view disk.old).current.held)) }
+    ensures fenced { (held : ℕ) → result ≡ Status.Fenced held →
+        (AsksSomeFormat (map string_bytes words.now) ⊎ AsksShowlog (map string_bytes words.now))
+        × (1 < (D.view disk.old).current.held) × (held ≡ (D.view disk.old).current.held) }
+    ensures fences { AsksSomeFormat (map string_bytes words.now) ⊎ AsksShowlog (map string_bytes words.now) → 1 < (D.view disk.old).current.held →
+        (result ≡ Status.Fenced ((D.view disk.old).current.held)) ⊎ IsUnbegun result (D.view disk.old) (D.view disk.new) }
 {
-    if is_session(words) {
-        return session(alloc, input, output);
-    }
-    if let Some(count) = serve_count(words) {
-        return serve(alloc, door, count);
-    }
-    if is_showlog(words) {
-        return show_log(alloc, output, disk);
-    }
-    match format_cap(words) {
-        Some(cap) => format_log(disk, cap),
-        None => Status::Usage,
+    match command_of(alloc, words) {
+        Ok(Some(command)) => match command {
+            Command::Session => session(alloc, input, output),
+            Command::Serve { count, .. } => serve(alloc, door, count),
+            Command::Format { cap } => format_log(disk, cap),
+            Command::Showlog => show_log(alloc, output, disk),
+        },
+        Ok(None) => Status::Usage,
+        Err(AllocError) => Status::NoMemory,
     }
 }
 

@@ -1,7 +1,8 @@
 //! The program `mscs`: the commands of `clus_cli` over the standard streams, a file and a TCP address.
 #![tactic(auto)]
 
-use clus_cli::{Status, run, serve_count};
+use clus_cli::{Status, run};
+use command_words::{Command, command_of};
 use disk_core::FileDisk;
 use edge_io::{StandardStreams, StdSink, StdSource, TcpDoor};
 use std::alloc::AllocError;
@@ -58,8 +59,8 @@ fn door_for<'a>(
     rt: &'a HostRuntime,
     words: &[String],
 ) -> Result<TcpDoor<'a, HostRuntime>, AllocError> {
-    let (address, count) = match (serve_count(words), words.get(1)) {
-        (Some(count), Some(address)) => (address.as_str(), count),
+    let (address, count) = match command_of(rt.alloc(), words)? {
+        Some(Command::Serve { address, count }) => (address, count),
         _ => ("", 0),
     };
     Ok(TcpDoor::at(rt, String::from_str(rt.alloc(), address)?, count.into()))

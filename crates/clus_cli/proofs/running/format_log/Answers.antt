@@ -1,7 +1,7 @@
 use Rattle.std.proofs.Common.{◌≡◌, replicate, refl}
 use Rattle.registry_defs.proofs.Held.{root_text}
 use Rattle.clus_cli.specs.Commands.{empty_registry}
-use Rattle.clus_cli.proofs.NumberLaws.{empty_formatted, empty_passes}
+use Rattle.clus_cli.proofs.FormatLaws.{empty_formatted, empty_passes}
 use Rattle.clus_cli.proofs.running.format_log.Goals as goal
 
 zeros : replicate 16 0 ≡ empty_registry

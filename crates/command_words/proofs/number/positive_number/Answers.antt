@@ -1,6 +1,6 @@
 use Rattle.std.proofs.Common.{rules}
-use Rattle.clus_cli.proofs.NumberLaws.{read_word, begins_above, word_read, one_number, no_error}
-use Rattle.clus_cli.proofs.words.positive_number.Goals as goal
+use Rattle.command_words.proofs.Numbers.{read_word, begins_above, word_read, one_number, no_error}
+use Rattle.command_words.proofs.number.positive_number.Goals as goal
 
 pub returns-then-not-begins_above_zero-clause-only : goal.returns-then-not-begins_above_zero-clause-only
 returns-then-not-begins_above_zero-clause-only c = λ number some fits is.

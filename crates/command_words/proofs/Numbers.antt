@@ -1,16 +1,10 @@
--- Positive numbers in decimal, and the state of a new log.
+-- Positive numbers in decimal.
 use Rattle.std.proofs.Common.{◌≡◌, ℕ, ◌^◌, ◌<◌, false, ◌==◌, zero, suc, List, get_or, Result, Ok, Err, Some, refl, sym, ap, ◌∙◌, subst, arith}
 use Rattle.std.specs.Fmt.{decimal}
 use Rattle.std.specs.Str.Parse.{ParsesUnsigned, IsNumeral, AllDigits, without_leading_plus, digits_value}
 use Rattle.std.proofs.lemmas.Bool.Decides.{nat_tests}
 use Rattle.std.proofs.lemmas.Str.Parse.{numerals_by_value, tells_digits}
 use Rattle.std.proofs.lemmas.Fmt.{decimal-digits_value, decimal_digit, first_decimal, parse-decimal}
-use Rattle.disk_core.specs.Images.{EachImage}
-use Rattle.disk_core.specs.Views.{DiskView, Passes}
-use Rattle.quorum_log.specs.Image.{Holds}
-use Rattle.quorum_log.specs.Formats.{empty_log, IsFormatted, IsInFormat}
-use Rattle.quorum_log.proofs.Moments.{settled_images}
-use Rattle.clus_cli.specs.Commands.{empty_registry}
 
 no_plus : (word : List ℕ) → 48 < get_or word 0 0 → without_leading_plus word ≡ word
 no_plus word above =
@@ -45,13 +39,3 @@ one_number result a b is_a is_b = let e : Ok a ≡ Ok b = sym is_a ∙ is_b in c
 
 pub no_error : {E : Type 0} {A : Type 0} (result : Result ℕ E) (error : E) (b : ℕ) → result ≡ Err error → result ≡ Ok b → A
 no_error result error b is_error is_b = absurd (cc (is_error, is_b))
-
--- the new log, told by its state
-pub empty_formatted : (cap : ℕ) (state : List ℕ) (w : DiskView) → state ≡ empty_registry → IsFormatted cap state w → EachImage (λ image. Holds image (empty_log cap empty_registry)) w.current
-empty_formatted cap state w is made =
-    let P : List ℕ → Type 0 = λ xs. IsFormatted cap xs w in
-    let there : P empty_registry = subst P is made in
-    settled_images (λ image. Holds image (empty_log cap empty_registry)) w.current there.settled there.holds
-
-pub empty_passes : (cap : ℕ) (state : List ℕ) (v w : DiskView) → state ≡ empty_registry → Passes (EachImage (IsInFormat v.current cap state)) v w → Passes (EachImage (IsInFormat v.current cap empty_registry)) v w
-empty_passes cap state v w is passes = let P : List ℕ → Type 0 = λ xs. Passes (EachImage (IsInFormat v.current cap xs)) v w in subst P is passes

@@ -1,0 +1,57 @@
+-- The program as clap sees it, and the texts that its matches stand for.
+use Rattle.std.specs.Prelude.{true, List, [], ◌∷◌, Option, Some, None, codes, if◌then◌else◌}
+use Rattle.std.specs.Prelude.{option_map, option_and_then}
+use Rattle.std.specs.Str.{bytes_eq}
+use Rattle.clap.specs.Words.{App, Row, Rule, Shape, Text, first_of, new_rule, with_subcommand}
+use Rattle.clap.specs.Simple.{new_shape}
+use Rattle.command_words.specs.Forms.{Texts, format, serve, session, showlog}
+
+-- An argument that is needed.
+abbrev pub rule : Text → Rule
+rule id = record (new_rule id) { required = true }
+
+-- A subcommand with these arguments.
+abbrev pub shape : Text → List Rule → Shape
+shape name rules = record (new_shape name) { rules = rules }
+
+abbrev pub app : Text → List Rule → App
+app name rules = record { top = shape name rules; subs = [] }
+
+abbrev pub serve_rules : List Rule
+serve_rules = rule (codes "address") ∷ rule (codes "count") ∷ []
+
+abbrev pub format_rules : List Rule
+format_rules = rule (codes "cap") ∷ []
+
+abbrev pub top : App
+top = record {
+  top = record (new_shape (codes "mscs")) {
+    no_binary_name = true;
+    disable_help_flag = true;
+    disable_help_subcommand = true;
+    subcommand_required = true;
+  };
+  subs = [];
+}
+
+-- The program with its first two subcommands, and with all.
+abbrev pub to_serve : App
+to_serve = with_subcommand (with_subcommand top (shape (codes "session") [])) (shape (codes "serve") serve_rules)
+
+abbrev pub program : App
+program = with_subcommand (with_subcommand to_serve (shape (codes "format") format_rules)) (shape (codes "showlog") [])
+
+-- The texts that the rows of a subcommand's matches stand for.
+abbrev pub serve_texts : Option Text → Option Text → Option Texts
+serve_texts address count = option_and_then (λ a. option_map (serve a) count) address
+
+abbrev pub texts_by : Text → List Row → Option Texts
+texts_by name rows =
+    if bytes_eq name (codes "session") then Some session
+    else if bytes_eq name (codes "serve") then serve_texts (first_of (codes "address") rows) (first_of (codes "count") rows)
+    else if bytes_eq name (codes "format") then option_map format (first_of (codes "cap") rows)
+    else if bytes_eq name (codes "showlog") then Some showlog
+    else None
+
+abbrev pub texts_in : Option (Text × List Row) → Option Texts
+texts_in given = option_and_then (λ p. texts_by p.0 p.1) given
