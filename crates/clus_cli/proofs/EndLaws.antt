@@ -4,7 +4,7 @@ use Rattle.causes.specs.Counts.{Rose}
 use Rattle.command_words.specs.Commands.{Asked, Asks, format, serve, session, showlog}
 use Rattle.clus_cli.specs.declared.status.Status.{Status}
 use Rattle.clus_cli.specs.declared.status.Status.TheVariants as statuses
-use Rattle.clus_cli.specs.Commands.{FormatEnds, FormatRuns}
+use Rattle.clus_cli.specs.Commands.{FormatEnds}
 use Rattle.clus_cli.specs.Doors.{ServeEnds}
 use Rattle.clus_cli.specs.Ends.{Ends, MayEnd, Outside}
 use Rattle.clus_cli.specs.Session.{SessionEnds}

@@ -57,6 +57,6 @@ MayEnd showlog (statuses.BadLog place) v w = HoldsBadLog v place
 MayEnd showlog (statuses.Fenced held) v w = HoldsGreater v held
 MayEnd asked status v w = ⊥
 
--- Whatever the words ask for, the run ends as that may end.
+-- Whatever the words ask for, the run ends as that may end. Of words that ask for nothing this says nothing.
 unfoldable pub Ends : List (List ℕ) → Status → Outside → Outside → Type 0
 Ends words status v w = (asked : Asked) → Asks words asked → MayEnd asked status v w
