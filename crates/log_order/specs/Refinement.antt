@@ -1,5 +1,5 @@
 -- How a disk with its bytes, its pending ranges and its moments is the log that the protocol speaks of.
-use Rattle.std.specs.Prelude.{◌≡◌, ◌⊎◌, ℕ, IsTrue, List, [], ◌∷◌, ◌++◌, Some, None}
+use Rattle.std.specs.Prelude.{◌≡◌, ◌⊎◌, ℕ, Bool, IsTrue, List, [], ◌∷◌, ◌++◌, Some, None}
 use Rattle.update_records.specs.Entry.{Entry}
 use Rattle.disk_core.specs.Images.{Moment, EachImage}
 use Rattle.disk_core.specs.Views.{DiskView}
@@ -24,6 +24,10 @@ MayHold l image =
 -- A moment of that log: the greatest view that has claimed it is the fencing token of the disk.
 abbrev pub MomentOf : Log → Moment → Type 0
 MomentOf l m = (m.held ≡ l.held) × EachImage (MayHold l) m
+
+-- A moment of one of these logs, as inside a call that has done its work or not.
+abbrev pub MomentOfOne : (Bool → Log) → Moment → Type 0
+MomentOfOne logs m = (which : Bool) × MomentOf (logs which) m
 
 -- The disk tells its content, and its present moment is one of that log.
 pub record Refines (l : Log) (v : DiskView) : Type 0 where

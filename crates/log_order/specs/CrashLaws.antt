@@ -1,0 +1,42 @@
+-- What stands while calls are refused, behind calls that have passed, and behind a crash inside them.
+use Rattle.std.specs.Prelude.{◌≡◌, ℕ, ◌<◌, IsTrue, Bool, List, [], ◌∷◌, Result, Err, ⊤}
+use Rattle.disk_core.specs.declared.fault.DiskFault.{DiskFault}
+use Rattle.disk_core.specs.declared.fault.DiskFault.TheVariants.{Fenced}
+use Rattle.disk_core.specs.Calls.{Call, Made, token}
+use Rattle.disk_core.specs.Crashes.{Crashed, after_crash}
+use Rattle.disk_core.specs.Images.{Moment, IsImage}
+use Rattle.disk_core.specs.Views.{DiskView, Passes}
+use Rattle.cluster_rules.specs.Worlds.{Log}
+use Rattle.log_order.specs.Refinement.{MomentOf, MomentOfOne, Refines}
+
+-- Calls whose first one is under a token that the disk has outgrown are refused, and change nothing.
+abbrev pub FencedKeeps : Type 0
+FencedKeeps =
+    (c : Call) (cs : List Call) (v w : DiskView) (result : Result ⊤ DiskFault)
+    → token c < v.current.held → Made (c ∷ cs) v result w
+    → (result ≡ Err (Fenced v.current.held)) × (w.current ≡ v.current)
+
+-- Where each moment is one of these logs, the present one is.
+abbrev pub PassesNow : Type 0
+PassesNow = (logs : Bool → Log) (v w : DiskView) → Passes (MomentOfOne logs) v w → MomentOfOne logs w.current
+
+-- The moment at which a crash has come, with these bytes in what was pending then.
+pub record DiedAt (P : Moment → Type 0) (bytes : List ℕ) (x : DiskView) : Type 0 where
+  pub moment : Moment
+  pub had : P moment
+  pub image : IsImage moment x.current.seen
+  pub left : x.current ≡ after_crash moment bytes
+
+-- A crash since the mark comes at one of the moments.
+abbrev pub Died : Type 0
+Died =
+    (logs : Bool → Log) (v w x : DiskView) (calls : ℕ) (bytes : List ℕ)
+    → IsTrue w.tells → v.past ≡ [] → Passes (MomentOfOne logs) v w → Crashed w calls bytes x
+    → DiedAt (MomentOfOne logs) bytes x
+
+-- Behind a crash at a moment of a log the disk is again one of that log.
+abbrev pub DiedRefines : Type 0
+DiedRefines =
+    (l : Log) (m : Moment) (x : DiskView) (bytes : List ℕ)
+    → IsTrue x.tells → MomentOf l m → IsImage m x.current.seen → x.current ≡ after_crash m bytes
+    → Refines l x
