@@ -28,3 +28,10 @@ AppendRefines =
 -- A moment at which nothing is in doubt is also one of the log with a record in doubt.
 abbrev pub DoubtWeakens : Type 0
 DoubtWeakens = (l : Log) (m : Moment) (e : Entry) (view : ℕ) → l.doubtful ≡ None → MomentOf l m → MomentOf (leave (Some e) view l) m
+
+-- A checkpoint and an append behind it, at whose moments the record is in doubt.
+abbrev pub AddMoments : Type 0
+AddMoments =
+    (l : Log) (v u w : DiskView) (e : Entry) (view : ℕ) → l.doubtful ≡ None
+    → Passes (MomentOf l) v u → Passes (MomentOf (leave (Some e) view l)) u w
+    → Passes (MomentOf (leave (Some e) view l)) v w

@@ -1,5 +1,5 @@
 -- What a checkpoint comes to for the log of the protocol: nothing. And how the first log comes about.
-use Rattle.std.specs.Prelude.{◌≡◌, ℕ, IsTrue, [], None}
+use Rattle.std.specs.Prelude.{◌≡◌, IsTrue, []}
 use Rattle.std.specs.List.{AllByRecursion}
 use Rattle.update_records.specs.Entry.{IsRecord}
 use Rattle.registry_defs.specs.Contents.{IsCap}

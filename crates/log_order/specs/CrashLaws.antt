@@ -1,20 +1,28 @@
 -- What stands while calls are refused, behind calls that have passed, and behind a crash inside them.
-use Rattle.std.specs.Prelude.{◌≡◌, ℕ, ◌<◌, IsTrue, Bool, List, [], ◌∷◌, Result, Err, ⊤}
+use Rattle.std.specs.Prelude.{◌≡◌, ℕ, ◌<◌, IsTrue, Bool, List, [], ◌∷◌, ◌++◌, Result, Err, ⊤}
 use Rattle.disk_core.specs.declared.fault.DiskFault.{DiskFault}
 use Rattle.disk_core.specs.declared.fault.DiskFault.TheVariants.{Fenced}
 use Rattle.disk_core.specs.Calls.{Call, Made, token}
 use Rattle.disk_core.specs.Crashes.{Crashed, after_crash}
 use Rattle.disk_core.specs.Images.{Moment, IsImage}
 use Rattle.disk_core.specs.Views.{DiskView, Passes}
+use Rattle.quorum_log.specs.Changes.{closing}
 use Rattle.cluster_rules.specs.Worlds.{Log}
 use Rattle.log_order.specs.Refinement.{MomentOf, MomentOfOne, Refines}
 
--- Calls whose first one is under a token that the disk has outgrown are refused, and change nothing.
+-- The calls were refused since the disk has outgrown their token, and have changed nothing.
+abbrev pub IsFencedOff : DiskView → Result ⊤ DiskFault → DiskView → Type 0
+IsFencedOff v result w = (result ≡ Err (Fenced v.current.held)) × (w.current ≡ v.current)
+
 abbrev pub FencedKeeps : Type 0
-FencedKeeps =
-    (c : Call) (cs : List Call) (v w : DiskView) (result : Result ⊤ DiskFault)
-    → token c < v.current.held → Made (c ∷ cs) v result w
-    → (result ≡ Err (Fenced v.current.held)) × (w.current ≡ v.current)
+FencedKeeps = (c : Call) (cs : List Call) (v w : DiskView) (result : Result ⊤ DiskFault) → token c < v.current.held → Made (c ∷ cs) v result w → IsFencedOff v result w
+
+-- The calls of a checkpoint, which begin with those that close the other half where it is valid.
+abbrev pub CheckpointFenced : Type 0
+CheckpointFenced =
+    (valid : Bool) (c : Call) (cs : List Call) (at : ℕ) (v w : DiskView) (result : Result ⊤ DiskFault)
+    → token c < v.current.held → Made (closing valid (token c) at ++ c ∷ cs) v result w
+    → IsFencedOff v result w
 
 -- Where each moment is one of these logs, the present one is.
 abbrev pub PassesNow : Type 0
