@@ -1,13 +1,14 @@
 -- The present moment, and the moment of a crash, are among the moments.
-use Rattle.std.proofs.Common.{◌≡◌, ℕ, zero, suc, IsTrue, List, [], ◌∷◌, ◌++◌, length, get_or, refl, sym, ap, ◌∙◌, subst}
+use Rattle.std.proofs.Common.{◌≡◌, ℕ, zero, suc, IsTrue, Bool, not, ◌==◌, List, [], ◌∷◌, ◌++◌, length, get_or, refl, sym, ap, ◌∙◌, subst}
 use Rattle.std.specs.Prelude.{min}
 use Rattle.std.specs.List.{AllByRecursion}
 use Rattle.disk_core.specs.Crashes.{Crashed, moment_at}
 use Rattle.disk_core.specs.Images.{Moment}
 use Rattle.disk_core.specs.Views.{DiskView, Passes, moments}
+use Rattle.quorum_log.specs.Image.{Holds, other_of}
 use Rattle.quorum_log.proofs.Moments.{settled_images}
-use Rattle.log_order.specs.CrashLaws.{Died, DiedAt, DiedRefines, PassesNow}
-use Rattle.log_order.specs.Refinement.{MayHold, MomentOfOne}
+use Rattle.log_order.specs.CrashLaws.{CrashedRefines, CrashedRefinesOne, Died, DiedAt, DiedRefines, PassedRefines, PassesNow, SameMoment}
+use Rattle.log_order.specs.Refinement.{MayHold, MomentOf, MomentOfOne}
 
 -- ---- the last of a list
 
@@ -34,6 +35,34 @@ passes_now P v w passes =
 
 pub log_now : PassesNow
 log_now logs v w passes = passes_now (MomentOfOne logs) v w passes
+
+pub now_refines : PassedRefines
+now_refines l v w tells passes = record { tells = tells; now = passes_now (MomentOf l) v w passes }
+
+pub same_moment : SameMoment
+same_moment l v w tells current refines =
+    let told : IsTrue w.tells = subst (λ (b : Bool). IsTrue b) (sym tells) refines.tells in (
+      record { tells = told; now = subst (MomentOf l) (sym current) refines.now },
+      λ log o. record {
+        claim = o.claim;
+        sure = o.sure;
+        found = o.found;
+        stands = record {
+          told = told;
+          settled = subst (λ (m : Moment). m.pending ≡ []) (sym current) o.stands.settled;
+          holds = subst (λ (m : Moment). Holds m.seen o.found) (sym current) o.stands.holds;
+          cap = o.stands.cap;
+          half = o.stands.half;
+          version = o.stands.version;
+          generation = o.stands.generation;
+          base = o.stands.base;
+          records = o.stands.records;
+          tail = o.stands.tail;
+          other = subst (λ (m : Moment). log.other_valid ≡ not (get_or m.seen (other_of o.found) 0 == 0)) (sym current) o.stands.other;
+        };
+        is = o.is;
+      },
+    )
 
 -- ---- one of a list
 
@@ -66,3 +95,17 @@ died_refines l m x bytes tells is image left =
     let none : x.current.pending ≡ [] = ap (λ (n : Moment). n.pending) left in
     let held : x.current.held ≡ m.held = ap (λ (n : Moment). n.held) left in
     record { tells = tells; now = (held ∙ is.0, settled_images (MayHold l) x.current none (is.1 x.current.seen image)) }
+
+-- a crash leaves what it was that the disk tells
+told_behind : (w x : DiskView) (calls : ℕ) (bytes : List ℕ) → IsTrue w.tells → Crashed w calls bytes x → IsTrue x.tells
+told_behind w x calls bytes tells crashed = subst (λ (b : Bool). IsTrue b) (sym crashed.same.tells) tells
+
+pub crashed_refines : CrashedRefines
+crashed_refines l v w x calls bytes tells none passes crashed =
+    let at = died (MomentOf l) v w x calls bytes tells none passes crashed in
+    died_refines l at.moment x bytes (told_behind w x calls bytes tells crashed) at.had at.image at.left
+
+pub crashed_refines_one : CrashedRefinesOne
+crashed_refines_one logs v w x calls bytes tells none passes crashed =
+    let at = died (MomentOfOne logs) v w x calls bytes tells none passes crashed in
+    (at.had.0, died_refines (logs at.had.0) at.moment x bytes (told_behind w x calls bytes tells crashed) at.had.1 at.image at.left)

@@ -14,7 +14,7 @@ pub use checkpointing::{
 };
 pub use crashing::{
     crash_comes_at_a_moment, crashed_log_refines, fenced_calls_change_nothing,
-    present_moment_is_one,
+    present_moment_is_one, same_moment_refines,
 };
 pub use opening::{
     fenced_open_changes_nothing, open_claims_or_not, open_is_refused_by_the_disk,
