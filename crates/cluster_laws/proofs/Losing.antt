@@ -20,9 +20,10 @@ use Rattle.cluster_laws.proofs.Stable.{AskedOnly, Ext, all_reached, grown_refl, 
 nothing_sent : (k : ℕ) (p : Sent) → slice_get [] k ≡ Some p → ⊥
 nothing_sent k p e = cc
 
-place_behind : {A : Type 0} (xs ys : List A) (k : ℕ) → slice_get (xs ++ ys) (length xs + k) ≡ slice_get ys k
-place_behind [] ys k = refl
-place_behind (x ∷ xs) ys k = place_behind xs ys k
+place_behind : {A : Type 0} (xs ys : List A) (k j : ℕ) → j ≡ length xs + k → slice_get (xs ++ ys) j ≡ slice_get ys k
+place_behind [] ys k j e = ap (slice_get ys) (omega (arith, e))
+place_behind (x ∷ xs) ys k zero e = absurd (omega (arith, e))
+place_behind (x ∷ xs) ys k (suc j) e = place_behind xs ys k j (omega (arith, e))
 
 module _ {M : Machine} where
   -- all that is under way is lost
@@ -100,7 +101,7 @@ module _ {M : Machine} where
 
   heard_behind : (before : List Sent) (w : World M) (k : ℕ) (answer : Answer) → happens (behind before w) (Deliver (suc (length before + k)) answer) ≡ behind before (happens w (Deliver (suc k) answer))
   heard_behind before w k answer =
-      ap (λ (o : Option Sent). elim o as (λ _. World M) [ None ↦ behind before w | Some p ↦ deliver (behind before w) p answer ]) (place_behind before w.pool k)
+      ap (λ (o : Option Sent). elim o as (λ _. World M) [ None ↦ behind before w | Some p ↦ deliver (behind before w) p answer ]) (place_behind before w.pool k (length before + k) refl)
       ∙ by (slice_get w.pool k)
     where
       by : (o : Option Sent) → ◌≡◌ {A = World M} (elim o [ None ↦ behind before w | Some p ↦ deliver (behind before w) p answer ]) (behind before (elim o [ None ↦ w | Some p ↦ deliver w p answer ]))
