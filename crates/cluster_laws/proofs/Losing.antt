@@ -1,12 +1,12 @@
 -- A world that lost every message under way is sound, and what it leads to the world leads to by what is sent from then on.
-use Rattle.std.proofs.Common.{◌≡◌, ℕ, zero, suc, ◌+◌, ◌<◌, Bool, true, false, ◌&&◌, List, [], ◌∷◌, ◌++◌, length, Option, Some, None, nat_lt, slice_get, refl, sym, ap, ◌∙◌, subst, append_assoc, append-nil, arith}
+use Rattle.std.proofs.Common.{◌≡◌, ℕ, zero, suc, ◌+◌, Bool, true, ◌&&◌, List, [], ◌∷◌, ◌++◌, length, Option, Some, None, nat_lt, slice_get, refl, sym, ap, ◌∙◌, subst, append_assoc, append-nil, arith}
 use Rattle.std.specs.List.{list_all}
 use Rattle.gum_messages.specs.Messages.{Sent}
 use Rattle.gum_messages.specs.declared.view.View.{View}
 use Rattle.cluster_rules.specs.Machines.{Machine}
 use Rattle.cluster_rules.specs.Nodes.{NodeState, Out, number_of}
 use Rattle.cluster_rules.specs.Receiving.{receive, tick}
-use Rattle.cluster_rules.specs.Updates.{Answer, Written}
+use Rattle.cluster_rules.specs.Updates.{Answer}
 use Rattle.cluster_rules.specs.Worlds.{Checkpoint, Clock, Declare, Deliver, Die, DieInDeliver, DieInInstall, Event, Install, Read, Start, Submit, Tick, World, absorb, deliver, happens, logs, run, sent}
 use Rattle.cluster_rules.specs.Progress.{Leads, Served, goes_on, goes_on_after}
 use Rattle.cluster_laws.proofs.Applying.{and_true}
