@@ -37,6 +37,7 @@ pub mod Propagation
 pub mod Serving
 pub mod Queues
 pub mod Cores
+pub mod Losing
 pub mod Standing
 pub mod Joined
 pub mod Opens

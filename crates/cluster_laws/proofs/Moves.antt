@@ -103,10 +103,14 @@ module _ {M : Machine} where
   pub ext_absorb : (w : World M) (n : ℕ) (x y : NodeState M) (es : List Effect) → w.nodes n ≡ Some x → Grown x y → Ext w (moved w n y es)
   ext_absorb w n x y es at g = ext_on w w.requests w.points n x y es (λ m i q u e. e) at g
 
+  -- a world with the same chain, starts and log
+  abbrev pub beside : World M → (ℕ → Option (NodeState M)) → List Sent → List (ℕ × ℕ) → (ℕ → ℕ → List Update) → List (Point M) → World M
+  beside w nodes pool acks rq ps = record w { nodes = nodes; pool = pool; acks = acks; requests = rq; points = ps }
+
   -- what holds of a node stays, where its world grows and has the same log
-  pub node_on : (w : World M) (rq : ℕ → ℕ → List Update) (ps : List (Point M)) (n : ℕ) (o : Out M) (m : ℕ) (y : NodeState M) → Ext w (absorbed n o (with_history w rq ps)) → AskedOnly w → length (rq m y.join.inc) ≡ length (w.requests m y.join.inc) → NodeOk w m y → NodeOk (absorbed n o (with_history w rq ps)) m y
-  node_on w rq ps n o m y e a same h =
-      let w' : World M = absorbed n o (with_history w rq ps) in record {
+  pub node_beside : (w : World M) (nodes : ℕ → Option (NodeState M)) (pool : List Sent) (acks : List (ℕ × ℕ)) (rq : ℕ → ℕ → List Update) (ps : List (Point M)) (m : ℕ) (y : NodeState M) → Ext w (beside w nodes pool acks rq ps) → AskedOnly w → length (rq m y.join.inc) ≡ length (w.requests m y.join.inc) → ((a : ℕ) (t : ℕ × ℕ) → slice_get w.acks a ≡ Some t → slice_get acks a ≡ Some t) → NodeOk w m y → NodeOk (beside w nodes pool acks rq ps) m y
+  node_beside w nodes pool acks rq ps m y e a same more h =
+      let w' : World M = beside w nodes pool acks rq ps in record {
         node = h.node;
         inc = h.inc;
         positive = h.positive;
@@ -146,15 +150,18 @@ module _ {M : Machine} where
             let t = h.spreading s c in
             (t.0, t.1, t.2, t.3, t.4, t.5, reached w w' (locker_of y.join.view.members) (inc_of y.join.view.members (locker_of y.join.view.members)) t.0.place e t.6, λ j b l f. reached w w' b.node (inc_of y.join.view.members b.node) t.0.place e (t.7 j b l f));
         finished = λ q p b. let f = h.finished q p b in
-            (f.0, f.1, f.2, f.3, f.4, slice_get_front w.acks (acked o.effects) f.1 (f.2, f.0.place) f.5, f.6);
+            (f.0, f.1, f.2, f.3, f.4, more f.1 (f.2, f.0.place) f.5, f.6);
       }
+
+  pub node_on : (w : World M) (rq : ℕ → ℕ → List Update) (ps : List (Point M)) (n : ℕ) (o : Out M) (m : ℕ) (y : NodeState M) → Ext w (absorbed n o (with_history w rq ps)) → AskedOnly w → length (rq m y.join.inc) ≡ length (w.requests m y.join.inc) → NodeOk w m y → NodeOk (absorbed n o (with_history w rq ps)) m y
+  node_on w rq ps n o m y e a same h = node_beside w (put w.nodes n o.node) (w.pool ++ sent o.effects) (w.acks ++ acked o.effects) rq (ps ++ answered n (w.starts n) (acked o.effects)) m y e a same (λ k t f. slice_get_front w.acks (acked o.effects) k t f) h
 
   pub node_stays : (w : World M) (n : ℕ) (o : Out M) (m : ℕ) (y : NodeState M) → Ext w (absorbed n o w) → AskedOnly w → NodeOk w m y → NodeOk (absorbed n o w) m y
   node_stays w n o m y e a h = node_on w w.requests w.points n o m y e a refl h
 
-  pub log_on : (w : World M) (rq : ℕ → ℕ → List Update) (ps : List (Point M)) (n : ℕ) (o : Out M) → Ext w (absorbed n o (with_history w rq ps)) → ((m i : ℕ) → w.starts m < i → length (rq m i) ≡ 0) → LogOk w → LogOk (absorbed n o (with_history w rq ps))
-  log_on w rq ps n o e un h =
-      let w' : World M = absorbed n o (with_history w rq ps) in record {
+  pub log_beside : (w : World M) (nodes : ℕ → Option (NodeState M)) (pool : List Sent) (acks : List (ℕ × ℕ)) (rq : ℕ → ℕ → List Update) (ps : List (Point M)) → Ext w (beside w nodes pool acks rq ps) → ((m i : ℕ) → w.starts m < i → length (rq m i) ≡ 0) → LogOk w → LogOk (beside w nodes pool acks rq ps)
+  log_beside w nodes pool acks rq ps e un h =
+      let w' : World M = beside w nodes pool acks rq ps in record {
         places = h.places;
         ids = h.ids;
         logged = h.logged;
@@ -179,6 +186,9 @@ module _ {M : Machine} where
         held = λ s. let a = h.held s in
             (a.0, a.1, entered_ w w' (locker_of a.0.members) (inc_of a.0.members (locker_of a.0.members)) w.log.held e a.2);
       }
+
+  pub log_on : (w : World M) (rq : ℕ → ℕ → List Update) (ps : List (Point M)) (n : ℕ) (o : Out M) → Ext w (absorbed n o (with_history w rq ps)) → ((m i : ℕ) → w.starts m < i → length (rq m i) ≡ 0) → LogOk w → LogOk (absorbed n o (with_history w rq ps))
+  log_on w rq ps n o e un h = log_beside w (put w.nodes n o.node) (w.pool ++ sent o.effects) (w.acks ++ acked o.effects) rq (ps ++ answered n (w.starts n) (acked o.effects)) e un h
 
   pub log_stays : (w : World M) (n : ℕ) (o : Out M) → Ext w (absorbed n o w) → LogOk w → LogOk (absorbed n o w)
   log_stays w n o e h = log_on w w.requests w.points n o e h.unasked h

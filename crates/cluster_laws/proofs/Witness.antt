@@ -1,5 +1,5 @@
 -- The premises of progress are met: a world of two members with three updates queued, from which the law serves them.
-use Rattle.std.proofs.Common.{◌≡◌, ℕ, ◌<◌, Bool, true, false, List, [], ◌∷◌, Option, Some, None, nat_eq, if◌then◌else◌, refl, subst, arith}
+use Rattle.std.proofs.Common.{◌≡◌, ℕ, ◌<◌, Bool, true, false, List, [], ◌∷◌, length, Option, Some, None, nat_eq, if◌then◌else◌, refl, subst, arith}
 use Rattle.gum_messages.specs.declared.view.View.{View}
 use Rattle.gum_messages.specs.Members.{inc_of}
 use Rattle.update_records.specs.declared.update.Update.{Update}
@@ -8,7 +8,7 @@ use Rattle.view_reconcile.specs.Joining as joining
 use Rattle.cluster_rules.specs.Nodes.{NodeState}
 use Rattle.cluster_rules.specs.Updates.{Written}
 use Rattle.cluster_rules.specs.Worlds.{Declare, Deliver, Event, Install, Recovered, Start, Submit, World, opening, run}
-use Rattle.cluster_rules.specs.Progress.{Leads, Served, Standing, goes_on}
+use Rattle.cluster_rules.specs.Progress.{Leads, Served, Standing, goes_on_after}
 use Rattle.cluster_rules.proofs.Scripts.{tally, tally_is_machine}
 use Rattle.cluster_laws.proofs.Applying.{eq_true}
 use Rattle.cluster_laws.proofs.Standing.{all_unstuck}
@@ -48,8 +48,8 @@ module _ (u : Update) (valid : IsUpdate u) where
   standing : Standing here two
   standing = record { declared = refl; held = refl; member = λ n lt. let a = at n lt in (a.0, record { node = a.1; inc = a.2.0; view = a.2.1 }) }
 
-  -- three updates are queued, one is logged: all are served
-  pub three_served : Leads goes_on here (λ t. Served t two)
+  -- three updates are queued, one is logged and its grant is lost: all are served
+  pub three_served : Leads (goes_on_after (length here.pool)) here (λ t. Served t two)
   three_served = all_unstuck tally tally_is_machine 4096 events tt two standing (omega arith)
 
 -- A view that has a node twice would wait for nobody and never open; it isn't declared.

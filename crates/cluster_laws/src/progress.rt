@@ -6,8 +6,9 @@ ghost use Rattle.cluster_rules.specs.Worlds.{Event, opening, run};
 
 use crate::Replicated;
 
-/// No reachable world is stuck: where a view stands, each of its members running, and the log has room, deliveries and
-/// ticks alone lead to a world in which each member is open and at rest, and each update that one took is acknowledged.
+/// No reachable world is stuck: where a view stands, each of its members running, and the log has room, ticks and
+/// deliveries alone lead to a world in which each member is open and at rest, and each update that one took is
+/// acknowledged. This holds even if every message that is under way is lost: only what is sent from then on is delivered.
 pub fn unstuck<R: Replicated>()
     ensures { (cap : ℕ) (events : List Event) → R.machine.IsCap cap → Unstuck (run events (opening R.machine cap)) }
 {}

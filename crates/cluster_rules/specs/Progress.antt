@@ -1,6 +1,6 @@
 -- Progress: what a world can still come to, where messages get through, the disk answers and nobody dies, and what is
 -- not taken back.
-use Rattle.std.specs.Prelude.{◌≡◌, ◌⊎◌, ℕ, ◌+◌, ◌<◌, ◌≤◌, Bool, true, false, List, [], ◌∷◌, ◌++◌, length, Option, Some, None}
+use Rattle.std.specs.Prelude.{◌≡◌, ◌⊎◌, ℕ, ◌+◌, ◌<◌, ◌≤◌, Bool, true, false, ◌&&◌, List, [], ◌∷◌, ◌++◌, length, Option, Some, None, nat_lt}
 use Rattle.std.specs.List.{list_all}
 use Rattle.gum_messages.specs.declared.member.Member.{Member}
 use Rattle.gum_messages.specs.declared.view.View.{View}
@@ -18,6 +18,10 @@ use Rattle.cluster_rules.specs.Worlds.{Deliver, Event, Tick, World, happens, run
 -- A message is delivered, where the log takes the record; a node repeats what it waits for.
 abbrev pub goes_on : Event → Bool
 goes_on e = elim e [ Deliver k answer ↦ elim answer [ Written ↦ true | _ ↦ false ] | Tick n ↦ true | _ ↦ false ]
+
+-- The same, of messages behind the first so many alone: what was sent before may all be lost.
+abbrev pub goes_on_after : ℕ → Event → Bool
+goes_on_after sent e = goes_on e && elim e [ Deliver k answer ↦ nat_lt sent k | _ ↦ true ]
 
 -- A member of a view runs in it.
 pub record Runs {M : Machine} (w : World M) (v : View) (n : ℕ) (x : NodeState M) : Type 0 where
@@ -72,9 +76,10 @@ pub record Leads {M : Machine} (kind : Event → Bool) (w : World M) (Q : World 
   pub going : list_all kind events ≡ true
   pub ends : Q (run events w)
 
--- No reachable world is stuck: where a view stands, deliveries and ticks alone serve each request.
+-- No reachable world is stuck: where a view stands, ticks and deliveries alone serve each request, even if every message
+-- that is under way is lost. What still has to be heard is sent again.
 abbrev pub Unstuck : {M : Machine} → World M → Type 0
-Unstuck w = (v : View) → Standing w v → has_room w v → Leads goes_on w (λ u. Served u v)
+Unstuck w = (v : View) → Standing w v → has_room w v → Leads (goes_on_after (length w.pool)) w (λ u. Served u v)
 
 -- A node pulls on: what it had is the beginning of what it has.
 pub record PullsOn {M : Machine} (x y : NodeState M) (got : ℕ) : Type 0 where
