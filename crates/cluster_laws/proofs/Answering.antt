@@ -1,5 +1,5 @@
 -- Each answer to a request is its own record's, and the requests of an incarnation are answered one after the other.
-use Rattle.std.proofs.Common.{◌≡◌, ◌≢◌, ◌⊎◌, inl, inr, ⊎_elim, ℕ, zero, suc, ◌+◌, ◌-◌, ◌<◌, ◌≤◌, List, [], ◌∷◌, ◌++◌, length, Option, Some, None, slice_get, refl, sym, ap, ◌∙◌, subst, append-nil, arith}
+use Rattle.std.proofs.Common.{◌≡◌, ◌≢◌, ◌⊎◌, inl, inr, ⊎_elim, ℕ, suc, ◌+◌, ◌-◌, ◌<◌, ◌≤◌, List, [], ◌∷◌, ◌++◌, length, Option, Some, None, slice_get, refl, sym, ap, ◌∙◌, subst, arith}
 use Rattle.std.proofs.lemmas.Bool.{cases_lt}
 use Rattle.std.proofs.lemmas.List.{take-append-le}
 use Rattle.gum_messages.specs.Places.{at_place}
@@ -8,10 +8,10 @@ use Rattle.update_records.specs.Entry.{Entry}
 use Rattle.cluster_rules.specs.Machines.{Machine, outcome_at, replay}
 use Rattle.cluster_rules.specs.Nodes.{NodeState, Out, fresh}
 use Rattle.cluster_rules.specs.Promises.{Answered}
-use Rattle.cluster_rules.specs.Worlds.{Log, Point, World, absorb, acked, head_of, opening, points_of, put}
+use Rattle.cluster_rules.specs.Worlds.{Log, Point, World, acked, head_of, opening, points_of, put}
 use Rattle.cluster_laws.proofs.Moves.{put_cases, slice_get_append, slice_get_back, slice_get_front}
 use Rattle.cluster_laws.proofs.Events.{at_get}
-use Rattle.cluster_laws.proofs.Orders.{GrewLog, log_same}
+use Rattle.cluster_laws.proofs.Orders.{GrewLog}
 use Rattle.cluster_laws.proofs.Starting.{start_ext, started_world}
 use Rattle.cluster_laws.proofs.Telling.{Leaves, Quiet, Tells}
 
@@ -137,9 +137,9 @@ module _ {M : Machine} where
         (λ (c : (m ≡ n) × (o.node ≡ Some z)).
         let b = l.left z c.1 in
         let h : HasPoint w'.points n x.join.inc k = ⊎_elim
-            (λ (d : x.core.passed < k). (new_at.0, pt, ap (λ (ps : List (Point M)). slice_get ps new_at.0) points ∙ new_at.1, refl, sym inc, omega (arith, b.1)))
-            (λ (d : k ≤ x.core.passed). front n x.join.inc k (an.told n x k at pos d))
-            (cases_lt x.core.passed k) in
+        (λ (d : x.core.passed < k). (new_at.0, pt, ap (λ (ps : List (Point M)). slice_get ps new_at.0) points ∙ new_at.1, refl, sym inc, omega (arith, b.1)))
+        (λ (d : k ≤ x.core.passed). front n x.join.inc k (an.told n x k at pos d))
+        (cases_lt x.core.passed k) in
         subst (λ (t : ℕ). HasPoint w'.points t z.join.inc k) (sym c.0) (subst (λ (t : ℕ). HasPoint w'.points n t k) (sym b.0) h))
         (λ (c : (m ≢ n) × (w.nodes m ≡ Some z)). front m z.join.inc k (an.told m z k c.1 pos le))
         (here m z is);

@@ -127,27 +127,29 @@ module _ {M : Machine} where
       (λ to there.
       let sp : Spreading = record { place = r.place; at = p } in
       let y : NodeState M = headed x x.core.passed x.core.queue (Some sp) (Some r) x.settled x.outcome in
-      let es : List Effect = Send (packet y to (Apply r)) ∷ [] in
-      (head_keeps w n x x.core.passed x.core.queue (Some sp) (Some r) x.settled x.outcome es j at (record {
-        more = omega arith;
-        keeps_settled = λ k e. inl e;
-        points = quiet_points w n y es refl;
-        more_asks = omega arith;
-        still = λ e q z. z;
-        new = λ a wt st i. (wt, refl);
-        new_doubt = λ a wt st i. (wt, refl);
-        idle = λ e. absurd (f e);
-        settled = h.settled;
-        unsettled = h.unsettled;
-        full_state = λ f. h.full_state f;
-        queued = h.queued;
-        all_requests = refl;
-        outcome = h.outcome;
-        spreading = λ t e. let q : sp ≡ t = cc in subst (λ (t : Spreading). (a : Entry) × (Some r ≡ Some a) × (a.place ≡ t.place) × Has a n x.join.inc (at_head x) × SpreadOk w n x a t.at) q (r, refl, refl, id, s);
-        finished = λ q lt le. absurd (omega arith);
-        messages = one_told (λ (q : Sent). Pooled (moved w n y es) q) (packet y to (Apply r)) (told w n x y es to (Apply r) h (h.ready_view (open_is_ready x.join s.0)) refl refl (record { at = s.1.at; view = s.1.view }));
-        acks = none_acked (λ (a b : ℕ). AckOk (moved w n y es) a b);
-      }), inl (still y es refl)))
+      let es : List Effect = Send (packet y to (Apply r)) ∷ [] in (
+        head_keeps w n x x.core.passed x.core.queue (Some sp) (Some r) x.settled x.outcome es j at (record {
+          more = omega arith;
+          keeps_settled = λ k e. inl e;
+          points = quiet_points w n y es refl;
+          more_asks = omega arith;
+          still = λ e q z. z;
+          new = λ a wt st i. (wt, refl);
+          new_doubt = λ a wt st i. (wt, refl);
+          idle = λ e. absurd (f e);
+          settled = h.settled;
+          unsettled = h.unsettled;
+          full_state = λ f. h.full_state f;
+          queued = h.queued;
+          all_requests = refl;
+          outcome = h.outcome;
+          spreading = λ t e. let q : sp ≡ t = cc in subst (λ (t : Spreading). (a : Entry) × (Some r ≡ Some a) × (a.place ≡ t.place) × Has a n x.join.inc (at_head x) × SpreadOk w n x a t.at) q (r, refl, refl, id, s);
+          finished = λ q lt le. absurd (omega arith);
+          messages = one_told (λ (q : Sent). Pooled (moved w n y es) q) (packet y to (Apply r)) (told w n x y es to (Apply r) h (h.ready_view (open_is_ready x.join s.0)) refl refl (record { at = s.1.at; view = s.1.view }));
+          acks = none_acked (λ (a b : ℕ). AckOk (moved w n y es) a b);
+        }),
+        inl (still y es refl),
+      ))
 
   pub on_granted_keeps : (w : World M) (n : ℕ) (x : NodeState M) (from : ℕ) (r : Entry) → Invariant w → w.nodes n ≡ Some x → x.join.view.number ≢ 0 → MsgOk w x.join.view from n (Granted r) → Good w n x (on_granted x r)
   on_granted_keeps w n x from r j at nz ok =
@@ -160,14 +162,16 @@ module _ {M : Machine} where
       let jo : joining.is_open x.join ≡ true = sym h.core_open ∙ op in
       let rd : joining.is_ready x.join ≡ true = open_is_ready x.join jo in
       let t = h.finished r.id.req pos le in
-      let es : List Effect = Send (packet x (locker_at x) (Release r.id.req)) ∷ [] in
-      (stay_sends w n x (locker_at x) (Release r.id.req) j at (told w n x x es (locker_at x) (Release r.id.req) h nz refl refl (
-        record { started = omega (arith, h.inc, here); passed = λ z e same. self_node w n x es (λ (q : NodeState M). r.id.req ≤ q.core.passed) le z e },
-        t.0,
-        record { at = t.3.at },
-        record { node = t.4.node; inc = t.4.inc ∙ sym here; req = t.4.req },
-        all_reached w (moved w n x es) x.join.view.members t.0.place (ext_absorb w n x x es at (grown_refl x)) (open_reached w n x t.1 t.2 t.0.place j at jo rd t.5 t.6),
-      )), inl (still x es refl)))
+      let es : List Effect = Send (packet x (locker_at x) (Release r.id.req)) ∷ [] in (
+        stay_sends w n x (locker_at x) (Release r.id.req) j at (told w n x x es (locker_at x) (Release r.id.req) h nz refl refl (
+          record { started = omega (arith, h.inc, here); passed = λ z e same. self_node w n x es (λ (q : NodeState M). r.id.req ≤ q.core.passed) le z e },
+          t.0,
+          record { at = t.3.at },
+          record { node = t.4.node; inc = t.4.inc ∙ sym here; req = t.4.req },
+          all_reached w (moved w n x es) x.join.view.members t.0.place (ext_absorb w n x x es at (grown_refl x)) (open_reached w n x t.1 t.2 t.0.place j at jo rd t.5 t.6),
+        )),
+        inl (still x es refl),
+      ))
 
   pub on_applied_keeps : (w : World M) (n : ℕ) (x : NodeState M) (from place : ℕ) → Invariant w → w.nodes n ≡ Some x → MsgOk w x.join.view from n (Applied place) → Good w n x (on_applied x from place)
   on_applied_keeps w n x from place j at ok =

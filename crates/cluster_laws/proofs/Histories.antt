@@ -1,14 +1,12 @@
 -- The invariants don't see what the points of a world tell, but only where its nodes answered.
-use Rattle.std.proofs.Common.{◌≡◌, ◌≢◌, ⊎_elim, ℕ, zero, suc, ◌≤◌, List, [], ◌∷◌, ◌++◌, length, Option, Some, None, slice_get, refl, sym, ap, ◌∙◌, subst, append-nil, arith}
-use Rattle.gum_messages.specs.Members.{inc_of}
-use Rattle.gum_messages.specs.Messages.{Sent}
+use Rattle.std.proofs.Common.{◌≡◌, ℕ, zero, suc, List, [], ◌∷◌, ◌++◌, Option, Some, None, slice_get, refl, sym, ap, ◌∙◌, subst, append-nil, arith}
 use Rattle.cluster_rules.specs.Machines.{Machine}
 use Rattle.cluster_rules.specs.Nodes.{NodeState, Out}
 use Rattle.cluster_rules.specs.Worlds.{Point, World, absorb, acked, head_of, points_of, put}
 use Rattle.cluster_laws.proofs.History.{absorbed, answered}
-use Rattle.cluster_laws.proofs.Inv.{Invariant, NodeOk, Owner, OwnerOk, Past}
+use Rattle.cluster_laws.proofs.Inv.{Invariant, OwnerOk, Past}
 use Rattle.cluster_laws.proofs.Stable.{AskedOnly, Ext, all_reached, grown_refl, longer_refl, past, pooled}
-use Rattle.cluster_laws.proofs.Moves.{log_on, node_on, put_cases, with_history}
+use Rattle.cluster_laws.proofs.Moves.{log_on, node_on, with_history}
 use Rattle.cluster_laws.proofs.Appending.{no_more}
 
 put_back : {A : Type 0} (f : ℕ → A) (n : ℕ) → put f n (f n) ≡ f

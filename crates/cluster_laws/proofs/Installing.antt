@@ -122,13 +122,14 @@ module _ {M : Machine} where
       let g : Good w1 n y open_ = opens_keeps w1 n y (Opened x.join.view.number ∷ []) j1 at1 refl refl were refl (none_told (λ (p : Sent). Pooled w1 p)) in
       (subst (λ (v : World M). Invariant v) (two_moves w n y [] open_) g.0, subst (λ (k : ℕ). Tells w.log.cap w.log.order n x.join.inc k open_) same g.1))
       (λ a.
-      let es : NodeState M → List Effect = λ u. to_each u (Offer o.count o.cap o.last) (spread_of (members_of u)) in
-      (ready_keeps w n x s o.last out es j at rs y eq
-      (λ ok. each_to (λ (p : Sent). Pooled (moved w n q (es q)) p) q (Offer o.count o.cap o.last) (spread_of (members_of q)) (λ to. told w n x q (es q) to (Offer o.count o.cap o.last) h k.view refl refl
-      (k.counted ∙ ap (λ (c : ℕ). Some c) (sym k.count), k.cap, ap (at_place w.log.order) k.count ∙ sym k.last)))
-      (no_acks q (Offer o.count o.cap o.last) (spread_of (members_of q)))
-      (λ ow. ready_owner w n x o s out (es q) j at k sd),
-      inl (quiet_as x.join.inc x.core.passed y (es y) (no_acks y (Offer o.count o.cap o.last) (spread_of (members_of y))) refl same)))
+      let es : NodeState M → List Effect = λ u. to_each u (Offer o.count o.cap o.last) (spread_of (members_of u)) in (
+        ready_keeps w n x s o.last out es j at rs y eq
+            (λ ok. each_to (λ (p : Sent). Pooled (moved w n q (es q)) p) q (Offer o.count o.cap o.last) (spread_of (members_of q)) (λ to. told w n x q (es q) to (Offer o.count o.cap o.last) h k.view refl refl
+            (k.counted ∙ ap (λ (c : ℕ). Some c) (sym k.count), k.cap, ap (at_place w.log.order) k.count ∙ sym k.last)))
+            (no_acks q (Offer o.count o.cap o.last) (spread_of (members_of q)))
+            (λ ow. ready_owner w n x o s out (es q) j at k sd),
+        inl (quiet_as x.join.inc x.core.passed y (es y) (no_acks y (Offer o.count o.cap o.last) (spread_of (members_of y))) refl same),
+      ))
 
   pub within_is : (x : NodeState M) (cap k : ℕ) → done_within x cap ≡ Some k → (s : Replica M) × (x.replica ≡ Some s) × (s.done ≡ k)
   within_is x cap k e = option_cases (λ (o : Option ℕ). o ≡ Some k → (s : Replica M) × (x.replica ≡ Some s) × (s.done ≡ k)) x.replica None (λ r. if nat_eq (M.cap r.registry) cap then Some r.done else None)

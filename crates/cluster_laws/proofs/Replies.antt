@@ -1,16 +1,15 @@
 -- Every run answers its requests as it should: event by event.
-use Rattle.std.proofs.Common.{◌≡◌, ◌≢◌, inl, ℕ, zero, suc, ◌+◌, ◌-◌, ◌<◌, ◌≤◌, ◌^◌, true, ◌&&◌, List, [], ◌∷◌, ◌++◌, Option, Some, None, nat_lt, if◌then◌else◌, slice_get, refl, sym, ap, ◌∙◌, subst, append-nil, arith}
+use Rattle.std.proofs.Common.{◌≡◌, ◌≢◌, inl, ℕ, zero, suc, ◌-◌, ◌≤◌, ◌^◌, true, ◌&&◌, List, [], ◌∷◌, ◌++◌, Some, None, nat_lt, if◌then◌else◌, slice_get, refl, sym, ap, ◌∙◌, subst, append-nil}
 use Rattle.gum_messages.specs.declared.body.Body.{Body}
 use Rattle.gum_messages.specs.declared.body.Body.TheVariants.{Ask, Granted, Apply, Applied, Release, Offer, Need, Piece, Ready, OpenView}
 use Rattle.gum_messages.specs.declared.view.View.{View}
-use Rattle.gum_messages.specs.Members.{inc_of, is_locker}
+use Rattle.gum_messages.specs.Members.{is_locker}
 use Rattle.gum_messages.specs.Messages.{Sent}
 use Rattle.gum_messages.specs.Places.{at_place}
 use Rattle.gum_messages.proofs.Branches.{if_cases, option_cases}
 use Rattle.update_records.specs.declared.update.Update.{Update}
 use Rattle.view_reconcile.specs.Joining as joining
 use Rattle.view_reconcile.specs.Chains.{view_in}
-use Rattle.cluster_rules.specs.declared.effect.HaltCause.{HaltCause}
 use Rattle.cluster_rules.specs.declared.effect.HaltCause.TheVariants as halt
 use Rattle.cluster_rules.specs.Machines.{Machine, IsMachine}
 use Rattle.cluster_rules.specs.Nodes.{NodeState, Out, done_of, halts, nothing, number_of}
@@ -20,7 +19,7 @@ use Rattle.cluster_rules.specs.Joins.{entered, recovers, takes_view}
 use Rattle.cluster_rules.specs.Receiving.{checkpoint, clock, receive, tick}
 use Rattle.cluster_rules.specs.Receiving as receiving
 use Rattle.cluster_rules.specs.Worlds.{Checkpoint, Clock, Declare, Deliver, Die, DieInDeliver, DieInInstall, Event, Install, Log, Opening, Point, Read, Recovered, Refused, Start, Submit, Tick, World, absorb, append, claimed, deliver, die_in_deliver, die_in_install, found_log, happens, install, leave, logs, may_declare, noted, opening, opens_log, raise, reads, run, stopped, with_log, written}
-use Rattle.cluster_laws.proofs.Inv.{Invariant, MsgOk, NodeOk}
+use Rattle.cluster_laws.proofs.Inv.{Invariant, MsgOk}
 use Rattle.cluster_laws.proofs.Applying.{lt_false}
 use Rattle.cluster_laws.proofs.Recovering.{entered_is, taken_view}
 use Rattle.cluster_laws.proofs.HeadRules.{on_applied_keeps, on_granted_keeps}

@@ -1,5 +1,5 @@
 -- The rules in which no head leaves its queue.
-use Rattle.std.proofs.Common.{◌≡◌, ◌≢◌, inl, ℕ, ◌+◌, Bool, true, false, not, ◌&&◌, List, [], ◌++◌, length, Option, Some, None, nat_eq, nat_lt, unwrap_or, if◌then◌else◌, refl, ap, ◌∙◌}
+use Rattle.std.proofs.Common.{◌≡◌, ℕ, ◌+◌, Bool, true, false, not, ◌&&◌, List, [], ◌++◌, length, Some, None, nat_eq, nat_lt, unwrap_or, if◌then◌else◌, refl}
 use Rattle.gum_messages.proofs.Branches.{if_cases, option_cases}
 use Rattle.update_records.specs.Entry.{Entry}
 use Rattle.update_records.specs.declared.update.Update.{Update}
@@ -7,13 +7,12 @@ use Rattle.gum_core.specs.declared.decision.Decision.{Decision}
 use Rattle.gum_core.specs.Updating.{CoreState}
 use Rattle.gum_core.specs.Updating as updating
 use Rattle.gum_core.proofs.Cases.{applying_cases, asked_cases, released_cases}
-use Rattle.view_reconcile.specs.declared.stage.Stage.{Stage}
 use Rattle.view_reconcile.specs.declared.stage.Stage.TheVariants as stage
 use Rattle.view_reconcile.specs.declared.step.Step.{Step}
 use Rattle.view_reconcile.specs.Joining.{ReconcileState}
 use Rattle.view_reconcile.specs.Joining as joining
 use Rattle.view_reconcile.proofs.Cases.{becomes_ready_cases, offered_cases, pulled_cases}
-use Rattle.gum_messages.specs.declared.body.Body.TheVariants.{Apply, Granted, Need}
+use Rattle.gum_messages.specs.declared.body.Body.TheVariants.{Granted, Need}
 use Rattle.cluster_rules.specs.declared.effect.HaltCause.TheVariants as halt
 use Rattle.cluster_rules.specs.declared.offering.Offering.{Offering}
 use Rattle.cluster_rules.specs.Machines.{Machine}

@@ -1,13 +1,13 @@
 -- What an event tells of its node's head: nothing, or the head has left, and its client is told the place of its record
 -- and what that record comes to there.
-use Rattle.std.proofs.Common.{◌≡◌, ◌⊎◌, inl, inr, ℕ, ◌+◌, ◌-◌, ◌<◌, List, [], ◌∷◌, ◌++◌, length, Option, Some, None, nat_lt, if◌then◌else◌, refl, sym, ap, ◌∙◌, subst}
+use Rattle.std.proofs.Common.{◌≡◌, ◌⊎◌, inr, ℕ, ◌+◌, ◌-◌, List, [], ◌∷◌, length, Option, Some, None, nat_lt, if◌then◌else◌, refl, ap, subst}
 use Rattle.gum_messages.specs.Places.{at_place}
 use Rattle.update_records.specs.Entry.{Entry}
 use Rattle.gum_core.specs.Updating as updating
 use Rattle.cluster_rules.specs.Machines.{Machine, outcome_at}
 use Rattle.cluster_rules.specs.declared.effect.Effect.{Effect}
 use Rattle.cluster_rules.specs.declared.effect.HaltCause.{HaltCause}
-use Rattle.cluster_rules.specs.Nodes.{NodeState, Out, becomes, halts, nothing}
+use Rattle.cluster_rules.specs.Nodes.{NodeState, Out, becomes, halts}
 use Rattle.cluster_rules.specs.Updates.{proceeds}
 use Rattle.cluster_rules.specs.Worlds.{World, acked}
 use Rattle.cluster_laws.proofs.History.{absorbed}

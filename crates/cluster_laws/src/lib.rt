@@ -1,6 +1,7 @@
 //! The protocol keeps its promises: after every list of events each registry is a prefix's of the one update order, each
-//! acknowledged update stands in every later open view, and no incarnation answers at a point below an earlier one. The
-//! definitions are those of `cluster_rules`, the invariants and their proof stand in `proofs/`.
+//! acknowledged update stands in every later open view, and no incarnation answers at a point below an earlier one. Each
+//! request is answered once, with what its own record comes to, and the order only grows. The definitions are those of
+//! `cluster_rules`, the invariants and their proof stand in `proofs/`.
 #![tactic(auto)]
 
 mod progress;
@@ -22,7 +23,8 @@ pub trait Replicated {
 }
 
 /// Whatever messages are lost, repeated or reordered and wherever nodes die: every node's registry is the one that the
-/// first `done` records of the order make, each record stands at its place, and no request is logged twice.
+/// first `done` records of the order make, each record stands at its place and is one that the machine allows, and no
+/// request is logged twice.
 pub fn safe<R: Replicated>()
     ensures { (cap : ℕ) (events : List Event) → R.machine.IsCap cap → Safe (run events (opening R.machine cap)) }
 {}

@@ -8,7 +8,6 @@ use Rattle.update_records.specs.Limits.{IsUpdate}
 use Rattle.view_reconcile.specs.Joining as joining
 use Rattle.update_records.specs.Entry.{Entry}
 use Rattle.cluster_rules.specs.Machines.{IsMachine, Machine, replay}
-use Rattle.gum_messages.specs.declared.body.Body.{Body}
 use Rattle.gum_messages.specs.declared.body.Body.TheVariants.{Need}
 use Rattle.gum_messages.specs.Messages.{Sent}
 use Rattle.cluster_rules.specs.Nodes.{NodeState, done_of}

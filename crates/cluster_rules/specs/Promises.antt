@@ -34,9 +34,13 @@ pub record Steady {M : Machine} (w : World M) : Type 0 where
 -- Each answer to a request has the place of its own record, and what that record comes to there. The requests of an
 -- incarnation are answered in their order, each once and none left out.
 pub record Answered {M : Machine} (w : World M) : Type 0 where
-  pub stands : (a : ℕ) (p : Point M) → at_place w.points a ≡ Some p → 0 < p.req → (e : Entry) × (at_place w.log.order p.place ≡ Some e) × (e.id ≡ record { node = p.node; inc = p.inc; req = p.req }) × (p.outcome ≡ Some (outcome_at M w.log.cap w.log.order (p.place - 1) e))
-  pub rises : (a b : ℕ) (p q : Point M) → at_place w.points a ≡ Some p → at_place w.points b ≡ Some q → a < b → p.node ≡ q.node → p.inc ≡ q.inc → 0 < p.req → 0 < q.req → p.req < q.req
-  pub none_left_out : (a k : ℕ) (p : Point M) → at_place w.points a ≡ Some p → 0 < k → k < p.req → (b : ℕ) × (q : Point M) × (at_place w.points b ≡ Some q) × (q.node ≡ p.node) × (q.inc ≡ p.inc) × (q.req ≡ k)
+  pub stands : (a : ℕ) (p : Point M) → at_place w.points a ≡ Some p → 0 < p.req
+      → (e : Entry) × (at_place w.log.order p.place ≡ Some e) × (e.id ≡ record { node = p.node; inc = p.inc; req = p.req })
+      × (p.outcome ≡ Some (outcome_at M w.log.cap w.log.order (p.place - 1) e))
+  pub rises : (a b : ℕ) (p q : Point M) → at_place w.points a ≡ Some p → at_place w.points b ≡ Some q → a < b
+      → p.node ≡ q.node → p.inc ≡ q.inc → 0 < p.req → 0 < q.req → p.req < q.req
+  pub none_left_out : (a k : ℕ) (p : Point M) → at_place w.points a ≡ Some p → 0 < k → k < p.req
+      → (b : ℕ) × (q : Point M) × (at_place w.points b ≡ Some q) × (q.node ≡ p.node) × (q.inc ≡ p.inc) × (q.req ≡ k)
 
 -- Whatever a recovery finds begins with the order, so with every acknowledged record, and has one record more at most.
 pub record Recovers {M : Machine} (w : World M) (found : Bool) : Type 0 where
