@@ -1,0 +1,4 @@
+pub mod Single
+pub mod Rounds
+pub mod Logging
+pub mod Promises
