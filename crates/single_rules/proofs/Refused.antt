@@ -1,12 +1,13 @@
 -- Where the log doesn't take the record, or no number is left for one.
-use Rattle.std.proofs.Common.{◌≡◌, ℕ, ◌+◌, ◌<◌, ◌≤◌, Bool, false, Some, None, arith}
+use Rattle.std.proofs.Common.{◌≡◌, ℕ, ◌+◌, ◌<◌, ◌≤◌, Bool, false, [], ◌∷◌, Some, None, arith}
 use Rattle.update_records.specs.declared.update.Update.{Update}
 use Rattle.gum_core.specs.Updating.{last_place, last_request}
 use Rattle.cluster_rules.specs.Machines.{Machine}
+use Rattle.cluster_rules.specs.declared.effect.Effect.TheVariants.{Send}
 use Rattle.cluster_rules.specs.declared.effect.HaltCause.TheVariants.{Disk, Fenced}
-use Rattle.cluster_rules.specs.Nodes.{halts, nothing}
+use Rattle.cluster_rules.specs.Nodes.{becomes, halts, nothing}
 use Rattle.cluster_rules.specs.Updates.{Answer, InDoubt, Unwritten, submit, unlogged}
-use Rattle.cluster_rules.specs.Receiving.{checkpoint, receive}
+use Rattle.cluster_rules.specs.Receiving.{checkpoint, receive, tick}
 use Rattle.single_rules.specs.Single.{IsSound, Single, ask, asking, at_rest, made}
 use Rattle.single_rules.proofs.Tests.{is_member, is_new, less, not_less, same}
 
@@ -26,6 +27,9 @@ module _ {M : Machine} where
   pub grants_none : (a : Single M) (u : Update) (held : ℕ) (answer : Answer) → IsSound a → last_place ≤ a.done
       → receive (asking a u) (ask a u) held answer ≡ unlogged (nothing (asking a u))
   grants_none a u held answer s full = simp (same, is_member a s, is_new a s, not_less a.done last_place full)
+
+  pub asks_again : (a : Single M) (u : Update) → tick (asking a u) ≡ becomes (asking a u) (Send (ask a u) ∷ [])
+  asks_again a u = simp same
 
   pub queues_none : (a : Single M) (u : Update) → last_request ≤ a.passed → submit (at_rest a) u ≡ nothing (at_rest a)
   queues_none a u full = let l = not_less (a.passed + 0) last_request (omega arith) in simp l

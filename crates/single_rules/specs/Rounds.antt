@@ -31,10 +31,22 @@ module _ {M : Machine} where
   stays x left = record { node = Some x; effects = []; records = []; outcomes = []; left = left }
 
   abbrev pub ends : Logged M → List Sent → Round M
-  ends d left = record { node = None; effects = d.out.effects; records = in_list d.appended; outcomes = in_list d.out.outcome; left = left }
+  ends d left = record {
+    node = None;
+    effects = d.out.effects;
+    records = in_list d.appended;
+    outcomes = in_list d.out.outcome;
+    left = left;
+  }
 
   abbrev pub ahead : Logged M → Round M → Round M
-  ahead d r = record { node = r.node; effects = d.out.effects ++ r.effects; records = in_list d.appended ++ r.records; outcomes = in_list d.out.outcome ++ r.outcomes; left = r.left }
+  ahead d r = record {
+    node = r.node;
+    effects = d.out.effects ++ r.effects;
+    records = in_list d.appended ++ r.records;
+    outcomes = in_list d.out.outcome ++ r.outcomes;
+    left = r.left;
+  }
 
   -- An event, and then what is left and what it sent.
   abbrev pub proceeds : Logged M → List Sent → (List Sent → NodeState M → Round M) → Round M
@@ -50,10 +62,19 @@ module _ {M : Machine} where
   abbrev pub round : ℕ → Answer → NodeState M → Update → Round M
   round held answer x u = proceeds (unlogged (submit x u)) [] (delivered 3 held answer)
 
+  abbrev pub joined : Round M → Round M → Round M
+  joined r q = record {
+    node = q.node;
+    effects = r.effects ++ q.effects;
+    records = r.records ++ q.records;
+    outcomes = r.outcomes ++ q.outcomes;
+    left = r.left ++ q.left;
+  }
+
   abbrev pub and_then : Round M → (NodeState M → Round M) → Round M
   and_then r next = elim r.node [
     | None ↦ r
-    | Some y ↦ record { node = (next y).node; effects = r.effects ++ (next y).effects; records = r.records ++ (next y).records; outcomes = r.outcomes ++ (next y).outcomes; left = r.left ++ (next y).left }
+    | Some y ↦ joined r (next y)
   ]
 
   abbrev pub rounds : ℕ → Answer → NodeState M → List Update → Round M
@@ -75,10 +96,17 @@ module _ {M : Machine} where
 
   abbrev pub all_effects : Single M → List Update → List Effect
   all_effects a [] = []
-  all_effects a (u ∷ us) = Send (ask a u) ∷ Send (grant a u) ∷ Acked a.view (a.done + 1) ∷ Send (release a) ∷ all_effects (updated a u) us
+  all_effects a (u ∷ us) =
+      Send (ask a u) ∷ Send (grant a u) ∷ Acked a.view (a.done + 1) ∷ Send (release a) ∷ all_effects (updated a u) us
 
   abbrev pub all_done : Single M → List Update → Round M
-  all_done a us = record { node = Some (at_rest (after_all a us)); effects = all_effects a us; records = all_made a us; outcomes = all_outcomes a us; left = [] }
+  all_done a us = record {
+    node = Some (at_rest (after_all a us));
+    effects = all_effects a us;
+    records = all_made a us;
+    outcomes = all_outcomes a us;
+    left = [];
+  }
 
   -- There are requests and places for so many updates.
   pub record HasRoom (a : Single M) (count : ℕ) : Type 0 where

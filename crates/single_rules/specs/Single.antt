@@ -1,5 +1,5 @@
 -- One node that is the only member of its view, between its events.
-use Rattle.std.specs.Prelude.{◌≡◌, ℕ, ◌+◌, ◌<◌, ◌≤◌, true, false, List, [], ◌∷◌, Option, Some, None}
+use Rattle.std.specs.Prelude.{◌≡◌, ℕ, ◌+◌, ◌<◌, ◌≤◌, true, false, List, [], ◌∷◌, length, Option, Some, None}
 use Rattle.gum_messages.specs.declared.view.View.{View}
 use Rattle.gum_messages.specs.declared.body.Body.{Body}
 use Rattle.gum_messages.specs.declared.body.Body.TheVariants.{Ask, Granted, Release}
@@ -8,9 +8,10 @@ use Rattle.update_records.specs.Entry.{Entry}
 use Rattle.update_records.specs.declared.update.Update.{Update}
 use Rattle.gum_core.specs.declared.lock.Lock.{Lock}
 use Rattle.view_reconcile.specs.declared.stage.Stage.TheVariants as stage
-use Rattle.cluster_rules.specs.Machines.{Machine}
+use Rattle.cluster_rules.specs.Machines.{Machine, registry_at}
 use Rattle.cluster_rules.specs.declared.offering.Offering.{Offering}
 use Rattle.cluster_rules.specs.Nodes.{NodeState, fresh}
+use Rattle.cluster_rules.specs.Joins.{last_of}
 
 -- What tells its whole state.
 pub record Single (M : Machine) : Type 0 where
@@ -40,7 +41,22 @@ started M node inc stamp = record (fresh M node inc) { stamp = stamp }
 
 -- Just opened in a view, over a log from which this was recovered.
 abbrev pub opened_over : {M : Machine} → ℕ → ℕ → ℕ → ℕ → Offering → M.Registry → Single M
-opened_over node inc view stamp o registry = record { node = node; inc = inc; view = view; stamp = stamp; passed = 0; greatest = 0; registry = registry; done = o.count; last = o.last }
+opened_over node inc view stamp o registry = record {
+  node = node;
+  inc = inc;
+  view = view;
+  stamp = stamp;
+  passed = 0;
+  greatest = 0;
+  registry = registry;
+  done = o.count;
+  last = o.last;
+}
+
+-- Just opened over a log of this capacity that holds this order.
+abbrev pub over_order : (M : Machine) → ℕ → ℕ → ℕ → ℕ → ℕ → List Entry → Single M
+over_order M node inc view stamp cap order =
+    opened_over node inc view stamp (record { count = length order; cap = cap; last = last_of order }) (registry_at M cap order (length order))
 
 module _ {M : Machine} where
   -- Its incarnation counts from 1, what it logged was finished, and its last record stands at its place.
@@ -63,7 +79,13 @@ module _ {M : Machine} where
       lock = lock;
       greatest = a.greatest ∷ [];
     };
-    join = record { node = a.node; inc = a.inc; view = view_of_one a.view a.node a.inc; stage = stage.Open; ready = false ∷ [] };
+    join = record {
+      node = a.node;
+      inc = a.inc;
+      view = view_of_one a.view a.node a.inc;
+      stage = stage.Open;
+      ready = false ∷ [];
+    };
     replica = Some (record { registry = a.registry; done = a.done });
     last = a.last;
     offer = None;
@@ -79,7 +101,12 @@ module _ {M : Machine} where
 
   -- The record of its next update, what that comes to, and the lock that it takes.
   abbrev pub made : Single M → Update → Entry
-  made a u = record { place = a.done + 1; stamp = a.stamp; id = record { node = a.node; inc = a.inc; req = a.passed + 1 }; update = u }
+  made a u = record {
+    place = a.done + 1;
+    stamp = a.stamp;
+    id = record { node = a.node; inc = a.inc; req = a.passed + 1 };
+    update = u;
+  }
 
   abbrev pub outcome_of : Single M → Update → M.Outcome
   outcome_of a u = (M.apply (made a u) a.registry).1
@@ -102,7 +129,12 @@ module _ {M : Machine} where
 
   -- The record is logged and applied, and its request isn't finished yet; then it is.
   abbrev pub logged : Single M → Update → Single M
-  logged a u = record a { registry = (M.apply (made a u) a.registry).0; done = a.done + 1; last = Some (made a u); greatest = a.passed + 1 }
+  logged a u = record a {
+    registry = (M.apply (made a u) a.registry).0;
+    done = a.done + 1;
+    last = Some (made a u);
+    greatest = a.passed + 1;
+  }
 
   abbrev pub updated : Single M → Update → Single M
   updated a u = record (logged a u) { passed = a.passed + 1 }

@@ -14,9 +14,15 @@ mod steps;
 pub use idle::{checkpoints_at_rest, clock_at_rest, tick_at_rest};
 pub use logging::{logs_as_told, logs_made};
 pub use machine::AnyMachine;
-pub use opening::{opens_alone, takes_view_of_one};
+pub use opening::{opens_alone, recovers_alone, takes_view_of_one};
 pub use refusals::{
-    checkpoint_fails, checkpoint_fenced, grants_none, halts_fenced, halts_in_doubt, halts_unwritten, queues_none,
+    asks_again, checkpoint_fails, checkpoint_fenced, grants_none, halts_fenced, halts_in_doubt,
+    halts_unwritten, queues_none,
 };
-pub use rounds::{all_counted, all_outcomes_of, all_placed, keeps_order, one_update, replays, several_updates, stays_sound};
-pub use steps::{asks_early, finishes_one, frees_next, frees_one, grants_one, submits_next, submits_one};
+pub use rounds::{
+    all_counted, all_outcomes_of, all_placed, keeps_order, one_update, replays, several_updates,
+    stays_sound,
+};
+pub use steps::{
+    asks_early, finishes_one, frees_next, frees_one, grants_one, submits_next, submits_one,
+};

@@ -1,11 +1,12 @@
 //! Where the log doesn't take a record, or no number is left for one.
 
-ghost use Rattle.std.specs.Prelude.{◌≡◌, ◌<◌, ◌≤◌, ℕ, Bool, false, Some, None};
+ghost use Rattle.std.specs.Prelude.{◌≡◌, ◌<◌, ◌≤◌, ◌∷◌, [], ℕ, Bool, false, Some, None};
 ghost use Rattle.update_records.specs.declared.update.Update.{Update};
 ghost use Rattle.gum_core.specs.Updating.{last_place, last_request};
+ghost use Rattle.cluster_rules.specs.declared.effect.Effect.TheVariants.{Send};
 ghost use Rattle.cluster_rules.specs.declared.effect.HaltCause.TheVariants.{Disk, Fenced};
-ghost use Rattle.cluster_rules.specs.Nodes.{halts, nothing};
-ghost use Rattle.cluster_rules.specs.Receiving.{checkpoint, receive};
+ghost use Rattle.cluster_rules.specs.Nodes.{becomes, halts, nothing};
+ghost use Rattle.cluster_rules.specs.Receiving.{checkpoint, receive, tick};
 ghost use Rattle.cluster_rules.specs.Updates.{Answer, InDoubt, Unwritten, submit, unlogged};
 ghost use Rattle.single_rules.specs.Single.{IsSound, Single, ask, asking, at_rest, made};
 
@@ -37,6 +38,12 @@ pub fn halts_unwritten<M: AnyMachine>()
 pub fn grants_none<M: AnyMachine>()
     ensures { (a : Single M.machine) (u : Update) (held : ℕ) (answer : Answer) → IsSound a → last_place ≤ a.done
         → receive (asking a u) (ask a u) held answer ≡ unlogged (nothing (asking a u)) }
+{}
+
+/// Each tick asks again for an update that stays queued.
+#[tactic(auto, using(crate::proofs::Refused::asks_again))]
+pub fn asks_again<M: AnyMachine>()
+    ensures { (a : Single M.machine) (u : Update) → tick (asking a u) ≡ becomes (asking a u) (Send (ask a u) ∷ []) }
 {}
 
 /// No request number is left: nothing is queued.

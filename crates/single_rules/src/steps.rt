@@ -23,7 +23,7 @@ pub fn submits_one<M: AnyMachine>()
 pub fn grants_one<M: AnyMachine>()
     ensures { (a : Single M.machine) (u : Update) (held : ℕ) → IsSound a → a.done < last_place → held ≤ a.view
         → receive (asking a u) (ask a u) held Written
-            ≡ record { out = becomes (granting a u) (Send (grant a u) ∷ []); appended = Some (made a u); doubtful = None } }
+        ≡ record { out = becomes (granting a u) (Send (grant a u) ∷ []); appended = Some (made a u); doubtful = None } }
 {}
 
 /// It hears the Granted: the update is acknowledged at its place, with what it came to, and the lock is to be released.
@@ -31,7 +31,7 @@ pub fn grants_one<M: AnyMachine>()
 pub fn finishes_one<M: AnyMachine>()
     ensures { (a : Single M.machine) (u : Update) (held : ℕ) (answer : Answer) → IsSound a
         → receive (granting a u) (grant a u) held answer
-            ≡ unlogged (acknowledges (releasing a u) (Some (outcome_of a u)) (Acked a.view (a.done + 1) ∷ Send (release a) ∷ [])) }
+        ≡ unlogged (acknowledges (releasing a u) (Some (outcome_of a u)) (Acked a.view (a.done + 1) ∷ Send (release a) ∷ [])) }
 {}
 
 /// It hears the Release: it is at rest again.
