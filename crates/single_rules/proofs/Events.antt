@@ -1,5 +1,5 @@
 -- The events of one update at a node that is alone, each computed.
-use Rattle.std.proofs.Common.{◌≡◌, ℕ, ◌+◌, ◌<◌, ◌≤◌, true, false, [], ◌∷◌, Some, None, nat_eq, nat_lt, refl, arith}
+use Rattle.std.proofs.Common.{◌≡◌, ℕ, ◌+◌, ◌<◌, ◌≤◌, true, false, [], ◌∷◌, Some, None, nat_eq, refl, arith}
 use Rattle.update_records.specs.declared.update.Update.{Update}
 use Rattle.gum_core.specs.Updating.{last_place, last_request}
 use Rattle.cluster_rules.specs.Machines.{Machine}

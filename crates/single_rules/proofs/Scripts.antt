@@ -1,17 +1,13 @@
 -- A node alone, seen to run: two updates in turn, by computation alone.
 use Rattle.std.proofs.Common.{◌≡◌, ℕ, false, List, [], ◌∷◌, length, Some, None, refl}
-use Rattle.gum_messages.specs.declared.view.View.{View}
 use Rattle.update_records.specs.Entry.{Entry}
 use Rattle.update_records.specs.Limits.{IsUpdate}
 use Rattle.update_records.specs.declared.update.Update.{Update}
-use Rattle.cluster_rules.specs.declared.effect.Effect.TheVariants.{Acked, Opened, Send}
-use Rattle.cluster_rules.specs.Nodes.{NodeState}
-use Rattle.cluster_rules.specs.Joins.{entered, recovers}
 use Rattle.cluster_rules.specs.Updates.{InDoubt, Written}
-use Rattle.cluster_rules.specs.Worlds.{Declare, Deliver, Event, Install, Point, Recovered, Start, Submit, World, acked, opening, run}
+use Rattle.cluster_rules.specs.Worlds.{Declare, Deliver, Event, Install, Recovered, Start, Submit, World, acked, opening, run}
 use Rattle.cluster_rules.proofs.Scripts.{tally}
-use Rattle.single_rules.specs.Single.{Single, at_rest, opened_over, started, view_of_one}
-use Rattle.single_rules.specs.Rounds.{Round, after_all, all_made, rounds}
+use Rattle.single_rules.specs.Single.{Single, at_rest, view_of_one}
+use Rattle.single_rules.specs.Rounds.{Round, after_all, rounds}
 
 -- Node 1, in its first incarnation, over an empty log of 4,096 bytes.
 abbrev alone : Single tally

@@ -1,6 +1,5 @@
 -- The record that a message has a node log.
-use Rattle.std.proofs.Common.{◌≡◌, ℕ, ◌<◌, ◌≤◌, Bool, true, false, Some, Option, nat_lt, refl, if◌then◌else◌}
-use Rattle.update_records.specs.Entry.{Entry}
+use Rattle.std.proofs.Common.{◌≡◌, ℕ, ◌<◌, ◌≤◌, Bool, true, false, Some, nat_lt, refl, if◌then◌else◌}
 use Rattle.update_records.specs.declared.update.Update.{Update}
 use Rattle.gum_core.specs.Updating.{last_place}
 use Rattle.gum_core.specs.Updating as updating
@@ -11,7 +10,7 @@ use Rattle.gum_messages.specs.declared.body.Body.TheVariants.{Ask, Granted, Appl
 use Rattle.gum_messages.specs.Messages.{Sent}
 use Rattle.cluster_rules.specs.Machines.{Machine}
 use Rattle.cluster_rules.specs.Nodes.{NodeState, done_of, nothing, number_of}
-use Rattle.cluster_rules.specs.Updates.{Answer, InDoubt, Written, answers, unlogged}
+use Rattle.cluster_rules.specs.Updates.{InDoubt, Written, answers, unlogged}
 use Rattle.cluster_rules.specs.Receiving.{counts, hears, receive}
 use Rattle.single_rules.specs.Logging.{body_to_log, entry_of, no_entry, to_log}
 use Rattle.single_rules.specs.Single.{IsSound, Single, ask, asking, grant, granting, made, release, releasing}
