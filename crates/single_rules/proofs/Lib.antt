@@ -5,4 +5,5 @@ pub mod Opens
 pub mod InTurn
 pub mod Orders
 pub mod Told
+pub mod Happening
 pub mod Scripts

@@ -10,6 +10,7 @@ mod opening;
 mod refusals;
 mod rounds;
 mod steps;
+mod worlds;
 
 pub use idle::{checkpoints_at_rest, clock_at_rest, tick_at_rest};
 pub use logging::{logs_as_told, logs_made};
@@ -26,3 +27,4 @@ pub use rounds::{
 pub use steps::{
     asks_early, finishes_one, frees_next, frees_one, grants_one, submits_next, submits_one,
 };
+pub use worlds::happens_in_worlds;
