@@ -1,0 +1,5 @@
+pub mod Single
+pub mod Rounds
+pub mod Logging
+pub mod Promises
+pub mod InWorlds
