@@ -7,7 +7,7 @@ ghost use Rattle.registry_defs.specs.Contents.{keys_in};
 ghost use Rattle.registry_defs.specs.Spelling.{registry_text};
 ghost use Rattle.update_records.specs.Entry.{record_text};
 ghost use Rattle.record_log.specs.Adding.{Adds, AppendsTo, BeginsTo, CheckpointsTo, is_due};
-ghost use Rattle.record_log.specs.Orders.{last_text};
+ghost use Rattle.log_order.specs.Orders.{last_text};
 
 use crate::fault::AddFault;
 use crate::record_log::RecordLog;
