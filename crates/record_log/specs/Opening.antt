@@ -1,5 +1,5 @@
 -- What recovering a log comes to.
-use Rattle.std.specs.Prelude.{◌≡◌, ◌⊎◌, ◌↔◌, ℕ, ◌+◌, ◌<◌, ◌≤◌, Bool, IsTrue, length, slice_index, Option, Some, None, IfSome, Result, Ok, Err}
+use Rattle.std.specs.Prelude.{◌≡◌, ◌⊎◌, ◌↔◌, ℕ, ◌+◌, ◌<◌, ◌≤◌, Bool, IsTrue, length, slice_index, None, IfSome, Result, Ok, Err}
 use Rattle.causes.specs.Counts.{Rose}
 use Rattle.disk_core.specs.Views.{DiskView}
 use Rattle.cluster_rules.specs.Machines.{replay}

@@ -1,4 +1,4 @@
-use Rattle.std.proofs.Common.{[], ◌∷◌, ◌++◌, ◌∙◌, Some, sym, ap}
+use Rattle.std.proofs.Common.{◌∙◌, sym, ap}
 use Rattle.update_records.specs.Entry.{Entry}
 use Rattle.std.specs.Prelude.{List}
 use Rattle.log_order.specs.Orders.{last_behind}
