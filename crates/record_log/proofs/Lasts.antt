@@ -1,5 +1,5 @@
 -- The last record of an order.
-use Rattle.std.proofs.Common.{◌≡◌, ◌↔◌, ℕ, ◌+◌, List, [], ◌∷◌, ◌++◌, length, Option, Some, None, refl, sym, ap, ◌∙◌, subst, arith}
+use Rattle.std.proofs.Common.{◌≡◌, ◌↔◌, ℕ, ◌+◌, List, [], ◌∷◌, ◌++◌, length, Option, Some, None, refl, sym, ◌∙◌, subst, arith}
 use Rattle.std.specs.Prelude.{IfSome}
 use Rattle.quorum_log.specs.declared.found.Found.{Found}
 use Rattle.quorum_log.specs.declared.found.FoundRecord.{FoundRecord}
@@ -11,7 +11,7 @@ use Rattle.cluster_rules.specs.Machines.{replay}
 use Rattle.registry_machine.specs.Machine.{registry_machine, replicated}
 use Rattle.record_log.specs.declared.recovered.Recovered.{Recovered}
 use Rattle.record_log.specs.Opening.{IsRecovered}
-use Rattle.record_log.specs.Orders.{last_behind}
+use Rattle.log_order.specs.Orders.{last_behind}
 
 pub last_of_more : (before : Option Entry) (es : List Entry) (e : Entry) → last_behind before (es ++ e ∷ []) ≡ Some e
 last_of_more before [] e = refl

@@ -1,5 +1,5 @@
 -- What the answers of the log below come to.
-use Rattle.std.proofs.Common.{◌≡◌, ℕ, ◌≤◌, [], ◌∷◌, Result, Ok, Err, refl, inl, inr}
+use Rattle.std.proofs.Common.{ℕ, ◌≤◌, [], ◌∷◌, Ok, Err, refl, inl, inr}
 use Rattle.disk_core.specs.Calls.{Made, claim, sync}
 use Rattle.disk_core.specs.Views.{DiskView}
 use Rattle.quorum_log.specs.declared.found.Found.{Found}

@@ -1,4 +1,3 @@
-pub mod Orders
 pub mod Faults
 pub mod Opening
 pub mod Adding

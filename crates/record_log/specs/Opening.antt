@@ -1,5 +1,5 @@
 -- What recovering a log comes to.
-use Rattle.std.specs.Prelude.{◌≡◌, ◌⊎◌, ◌↔◌, ℕ, ◌+◌, ◌<◌, ◌≤◌, Bool, IsTrue, length, slice_index, Option, Some, None, IfSome, Result, Ok, Err}
+use Rattle.std.specs.Prelude.{◌≡◌, ◌⊎◌, ◌↔◌, ℕ, ◌+◌, ◌<◌, ◌≤◌, Bool, IsTrue, length, slice_index, None, IfSome, Result, Ok, Err}
 use Rattle.causes.specs.Counts.{Rose}
 use Rattle.disk_core.specs.Views.{DiskView}
 use Rattle.cluster_rules.specs.Machines.{replay}
@@ -16,7 +16,7 @@ use Rattle.record_log.specs.declared.recovered.Recovered.{Recovered}
 use Rattle.record_log.specs.declared.fault.RecordFault.{RecordFault}
 use Rattle.record_log.specs.declared.fault.RecordFault.TheVariants.{Failed, Fenced, Image, Memory}
 use Rattle.record_log.specs.Faults.{record_fault}
-use Rattle.record_log.specs.Orders.{last_behind}
+use Rattle.log_order.specs.Orders.{last_behind}
 
 -- What was recovered is what the log that was found holds: its records applied in turn to its state.
 pub record IsRecovered (found : Found) (r : Recovered) : Type 0 where

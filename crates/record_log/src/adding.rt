@@ -7,7 +7,7 @@ ghost use Rattle.registry_defs.specs.Contents.{keys_in};
 ghost use Rattle.registry_defs.specs.Spelling.{registry_text};
 ghost use Rattle.update_records.specs.Entry.{record_text};
 ghost use Rattle.record_log.specs.Adding.{Adds, AppendsTo, BeginsTo, CheckpointsTo, is_due};
-ghost use Rattle.record_log.specs.Orders.{last_text};
+ghost use Rattle.log_order.specs.Orders.{last_text};
 
 use crate::fault::AddFault;
 use crate::record_log::RecordLog;
@@ -33,6 +33,11 @@ impl RecordLog {
         requires last { (last ≡ None) ↔ (self.base + self.records ≡ 0) }
         requires disk_size { image_size self.cap ≤ (D.view disk.old).size }
         ensures adds { Adds (is_due self (length (record_text entry.now))) self (registry_text (keys_in registry.now)) (last_text (option_map (λ e. e.now) last.entry)) (record_text entry.now) (D.view disk.old) result (D.view disk.new) }
+        ensures same { SameDisk (D.view disk.old) (D.view disk.new) }
+        ensures held { (D.view disk.new).current.held ≡ (D.view disk.old).current.held }
+        ensures token { IfOk result (λ log. log.claim ≡ self.claim) }
+        ensures same_cap { IfOk result (λ log. log.cap ≡ self.cap) }
+        ensures count { IfOk result (λ log. log.base + log.records ≡ self.base + self.records + 1) }
     {
         let bytes = encode(self.alloc, entry)?;
         if self.is_due(bytes.len()) {
@@ -54,6 +59,11 @@ impl RecordLog {
         requires last { (last ≡ None) ↔ (self.base + self.records ≡ 0) }
         requires disk_size { image_size self.cap ≤ (D.view disk.old).size }
         ensures checkpoints { CheckpointsTo self (registry_text (keys_in registry.now)) (last_text (option_map (λ e. e.now) last.entry)) (D.view disk.old) result (D.view disk.new) }
+        ensures same { SameDisk (D.view disk.old) (D.view disk.new) }
+        ensures held { (D.view disk.new).current.held ≡ (D.view disk.old).current.held }
+        ensures token { IfOk result (λ log. log.claim ≡ self.claim) }
+        ensures same_cap { IfOk result (λ log. log.cap ≡ self.cap) }
+        ensures count { IfOk result (λ log. log.base + log.records ≡ self.base + self.records) }
     {
         let state = registry.to_bytes()?;
         let last = encode_last(self.alloc, last)?;
@@ -84,6 +94,11 @@ impl RecordLog {
         requires last { (last ≡ None) ↔ (self.base + self.records ≡ 0) }
         requires disk_size { image_size self.cap ≤ (D.view disk.old).size }
         ensures adds { Adds true self (registry_text (keys_in registry.now)) (last_text (option_map (λ e. e.now) last.entry)) bytes.now (D.view disk.old) result (D.view disk.new) }
+        ensures same { SameDisk (D.view disk.old) (D.view disk.new) }
+        ensures held { (D.view disk.new).current.held ≡ (D.view disk.old).current.held }
+        ensures token { IfOk result (λ log. log.claim ≡ self.claim) }
+        ensures same_cap { IfOk result (λ log. log.cap ≡ self.cap) }
+        ensures count { IfOk result (λ log. log.base + log.records ≡ self.base + self.records + 1) }
     {
         let state = registry.to_bytes()?;
         let last = encode_last(self.alloc, last)?;
@@ -98,6 +113,11 @@ impl RecordLog {
         requires none { (last.now ≡ []) ↔ (self.base + self.records ≡ 0) }
         requires disk_size { image_size self.cap ≤ (D.view disk.old).size }
         ensures begun { BeginsTo self state.now last.now (D.view disk.old) result (D.view disk.new) }
+        ensures same { SameDisk (D.view disk.old) (D.view disk.new) }
+        ensures held { (D.view disk.new).current.held ≡ (D.view disk.old).current.held }
+        ensures token { IfOk result (λ log. log.claim ≡ self.claim) }
+        ensures same_cap { IfOk result (λ log. log.cap ≡ self.cap) }
+        ensures count { IfOk result (λ log. log.base + log.records ≡ self.base + self.records) }
         ensures fits { IfOk result (λ begun. (count : ℕ) → count ≤ most_record → Fits begun count) }
     {
         match self.log.checkpoint(disk, state, last) {
@@ -118,6 +138,11 @@ impl RecordLog {
         requires few { self.base + self.records < most_records }
         requires disk_size { image_size self.cap ≤ (D.view disk.old).size }
         ensures appended { AppendsTo self bytes.now (D.view disk.old) result (D.view disk.new) }
+        ensures same { SameDisk (D.view disk.old) (D.view disk.new) }
+        ensures held { (D.view disk.new).current.held ≡ (D.view disk.old).current.held }
+        ensures token { IfOk result (λ log. log.claim ≡ self.claim) }
+        ensures same_cap { IfOk result (λ log. log.cap ≡ self.cap) }
+        ensures count { IfOk result (λ log. log.base + log.records ≡ self.base + self.records + 1) }
     {
         match self.log.append(disk, bytes) {
             Ok(log) => Ok(RecordLog {

@@ -9,7 +9,7 @@ ghost use Rattle.quorum_log.specs.Layout.{most_records};
 ghost use Rattle.quorum_log.specs.Opening.{IsInOpen, OpenCalls};
 ghost use Rattle.registry_machine.specs.Machine.{registry_machine, replicated};
 ghost use Rattle.record_log.specs.Opening.{ComesOf, Decoding, IsRecovered, OpensTo};
-ghost use Rattle.record_log.specs.Orders.{last_behind};
+ghost use Rattle.log_order.specs.Orders.{last_behind};
 
 use crate::fault::RecordFault;
 use crate::record_log::RecordLog;

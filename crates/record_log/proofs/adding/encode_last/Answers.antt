@@ -1,4 +1,4 @@
-use Rattle.std.proofs.Common.{◌≡◌, ◌↔◌, List, [], IfOk, Ok, Err, Result, None}
+use Rattle.std.proofs.Common.{◌≡◌, ◌↔◌, [], IfOk, Ok, Err, None}
 use Rattle.record_log.proofs.Texts.{text_none}
 use Rattle.update_records.specs.Entry.{record_text}
 use Rattle.record_log.proofs.adding.encode_last.Goals as goal

@@ -1,7 +1,7 @@
-use Rattle.std.proofs.Common.{[], ◌∷◌, ◌++◌, ◌∙◌, Some, sym, ap}
+use Rattle.std.proofs.Common.{◌∙◌, sym, ap}
 use Rattle.update_records.specs.Entry.{Entry}
 use Rattle.std.specs.Prelude.{List}
-use Rattle.record_log.specs.Orders.{last_behind}
+use Rattle.log_order.specs.Orders.{last_behind}
 use Rattle.record_log.proofs.Lasts.{last_of_more}
 use Rattle.record_log.proofs.opening.last_behind.Goals as goal
 

@@ -1,5 +1,5 @@
-use Rattle.std.proofs.Common.{◌≡◌, ◌+◌, ◌∙◌, length, refl, ap}
-use Rattle.std.specs.Prelude.{ℕ, List}
+use Rattle.std.proofs.Common.{◌+◌, ◌∙◌, length, refl, ap}
+use Rattle.std.specs.Prelude.{List}
 use Rattle.update_records.specs.Entry.{Entry}
 use Rattle.cluster_rules.specs.Machines.{replay}
 use Rattle.registry_machine.specs.Machine.{registry_machine, replicated}
