@@ -8,6 +8,7 @@ use Rattle.quorum_log.specs.Changes.{IsInChange, closing, framed_record, half_te
 use Rattle.quorum_log.specs.Faults.{AnsweredBy, disk_answer}
 use Rattle.quorum_log.specs.Layout.{half_at, half_size, next_generation}
 use Rattle.quorum_log.specs.Logs.{LogValue, StandsFor, appended, begun}
+use Rattle.update_records.specs.Entry.{Entry, IsId, IsRecord}
 use Rattle.record_log.specs.declared.fault.AddFault.{AddFault}
 use Rattle.record_log.specs.declared.fault.AddFault.TheVariants.{Checkpoint, Append, Memory}
 
@@ -62,6 +63,11 @@ Adds due log state last bytes v (Err Memory) w = w ≡ v
 Adds true log state last bytes v (Err (Checkpoint fault)) w = Checkpoints log state last v (Err fault) w
 Adds true log state last bytes v r w = AddsBehind log state last bytes v r w
 Adds false log state last bytes v r w = AppendsTo log bytes v r w
+
+-- Unless memory ran out, what was encoded is such a record as decodes again, where its id is one.
+abbrev pub IsSound : Entry → Result LogValue AddFault → Type 0
+IsSound e (Err Memory) = Unit {0}
+IsSound e r = IsId e.id → IsRecord e
 
 -- A checkpoint is due before a record of that length: the log isn't of version 2, or the record doesn't fit.
 abbrev pub is_due : LogValue → ℕ → Bool

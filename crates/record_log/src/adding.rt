@@ -6,7 +6,7 @@ ghost use Rattle.quorum_log.specs.Logs.{Fits};
 ghost use Rattle.registry_defs.specs.Contents.{keys_in};
 ghost use Rattle.registry_defs.specs.Spelling.{registry_text};
 ghost use Rattle.update_records.specs.Entry.{record_text};
-ghost use Rattle.record_log.specs.Adding.{Adds, AppendsTo, BeginsTo, CheckpointsTo, is_due};
+ghost use Rattle.record_log.specs.Adding.{Adds, AppendsTo, BeginsTo, CheckpointsTo, IsSound, is_due};
 ghost use Rattle.log_order.specs.Orders.{last_text};
 
 use crate::fault::AddFault;
@@ -38,6 +38,7 @@ impl RecordLog {
         ensures token { IfOk result (λ log. log.claim ≡ self.claim) }
         ensures same_cap { IfOk result (λ log. log.cap ≡ self.cap) }
         ensures count { IfOk result (λ log. log.base + log.records ≡ self.base + self.records + 1) }
+        ensures sound { IsSound entry.now result }
     {
         let bytes = encode(self.alloc, entry)?;
         if self.is_due(bytes.len()) {

@@ -1,5 +1,5 @@
 //! A log of records is recovered.
-ghost use Rattle.std.specs.Prelude.{◌≡◌, ◌≤◌, ◌+◌, length, IfErr, IfOk, IfSome, IsTrue, OnOk, Ok, Err, Result};
+ghost use Rattle.std.specs.Prelude.{◌≡◌, ◌≤◌, ◌+◌, length, IfOk, IsTrue, Result};
 ghost use Rattle.disk_core.specs.Views.{Passes};
 ghost use Rattle.disk_core.specs.Calls.{SameDisk};
 ghost use Rattle.cluster_rules.specs.Machines.{replay};
@@ -8,7 +8,7 @@ ghost use Rattle.quorum_log.specs.declared.fault.OpenFault as fault;
 ghost use Rattle.quorum_log.specs.Layout.{most_records};
 ghost use Rattle.quorum_log.specs.Opening.{IsInOpen, OpenCalls};
 ghost use Rattle.registry_machine.specs.Machine.{registry_machine, replicated};
-ghost use Rattle.record_log.specs.Opening.{ComesOf, Decoding, IsRecovered, OpensTo};
+ghost use Rattle.record_log.specs.Opening.{ComesOf, Decoding, OpensTo};
 ghost use Rattle.log_order.specs.Orders.{last_behind};
 
 use crate::fault::RecordFault;
