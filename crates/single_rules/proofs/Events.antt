@@ -8,7 +8,7 @@ use Rattle.cluster_rules.specs.Nodes.{acknowledges, becomes, nothing}
 use Rattle.cluster_rules.specs.Updates.{Answer, Written, submit, unlogged}
 use Rattle.cluster_rules.specs.Receiving.{checkpoint, clock, receive, tick}
 use Rattle.single_rules.specs.Single.{IsSound, Single, ask, asking, at_rest, following, grant, granting, made, outcome_of, release, releasing, updated}
-use Rattle.single_rules.proofs.Tests.{is_member, is_new, less, not_less, same}
+use Rattle.single_rules.proofs.Comparisons.{is_member, is_new, less, not_less, same}
 
 module _ {M : Machine} where
   pub submits_one : (a : Single M) (u : Update) → a.passed < last_request → submit (at_rest a) u ≡ becomes (asking a u) (Send (ask a u) ∷ [])

@@ -15,7 +15,7 @@ use Rattle.cluster_rules.specs.Worlds.{Deliver, Point, Submit, World, absorb, de
 use Rattle.single_rules.specs.Single.{IsSound, Single, ask, asking, at_rest, grant, granting, made, outcome_of, release, releasing, updated}
 use Rattle.single_rules.specs.Rounds.{HasRoom}
 use Rattle.single_rules.specs.InWorlds.{RestsIn, RoundOf, answer_in, round_events}
-use Rattle.single_rules.proofs.Tests.{less, same}
+use Rattle.single_rules.proofs.Comparisons.{less, same}
 use Rattle.single_rules.proofs.Events.{finishes_one, frees_one, grants_one, submits_one}
 
 get_end : {A : Type 0} (l : List A) (y : A) → slice_get (l ++ y ∷ []) (length l) ≡ Some y

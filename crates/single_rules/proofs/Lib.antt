@@ -1,4 +1,4 @@
-pub mod Tests
+pub mod Comparisons
 pub mod Events
 pub mod Refused
 pub mod Opens

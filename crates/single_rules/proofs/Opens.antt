@@ -6,9 +6,9 @@ use Rattle.cluster_rules.specs.declared.effect.Effect.TheVariants.{Opened}
 use Rattle.cluster_rules.specs.declared.offering.Offering.{Offering}
 use Rattle.cluster_rules.specs.Nodes.{NodeState, becomes}
 use Rattle.cluster_rules.specs.Joins.{entered, last_of, recovers, recovers_from, shows, takes_view}
-use Rattle.single_rules.specs.Single.{IsLastOf, IsSound, at_rest, opened_over, over_order, started, view_of_one}
-use Rattle.single_rules.specs.Promises.{IsPlaced, OnOrder}
-use Rattle.single_rules.proofs.Tests.{less, same}
+use Rattle.single_rules.specs.Single.{IsLastOf, IsSound, at_rest, offering_of, opened_over, over_order, started, view_of_one}
+use Rattle.single_rules.specs.Promises.{InPlaces, OnOrder}
+use Rattle.single_rules.proofs.Comparisons.{less, same}
 
 pub takes_view_of_one : (M : Machine) (node inc stamp number : ℕ) → 0 < inc → 0 < number → takes_view (started M node inc stamp) (view_of_one number node inc) ≡ true
 takes_view_of_one M node inc stamp number i n = simp (same, less 0 number n, less 0 inc i)
@@ -22,7 +22,7 @@ last_is : (o : Option Entry) (n : ℕ) → ((e : Entry) → o ≡ Some e → e.p
 last_is None n at l = absurd (cc)
 last_is (Some e) n at l = at e refl
 
-last_placed : (order : List Entry) → IsPlaced order → IsLastOf (last_of order) (length order)
+last_placed : (order : List Entry) → InPlaces order → IsLastOf (last_of order) (length order)
 last_placed [] placed = refl
 last_placed (e ∷ es) placed = last_is (last_of (e ∷ es)) (suc (length es)) (placed (suc (length es))) (some_last e es)
 
@@ -45,11 +45,11 @@ module _ {M : Machine} where
   pub recovers_alone : (node inc stamp number cap : ℕ) (order : List Entry) → 0 < inc → 0 < number
       → recovers (entered (view_of_one number node inc) (started M node inc stamp)) cap order ≡ becomes (at_rest (over_order M node inc number stamp cap order)) (Opened number ∷ [])
   recovers_alone node inc stamp number cap order i n =
-      opens_alone node inc stamp number (record { count = length order; cap = cap; last = last_of order }) (registry_at M cap order (length order)) i n
+      opens_alone node inc stamp number (offering_of cap order) (registry_at M cap order (length order)) i n
 
-  pub recovers_sound : (node inc stamp number cap : ℕ) (order : List Entry) → 0 < inc → IsPlaced order → IsSound (over_order M node inc number stamp cap order)
+  pub recovers_sound : (node inc stamp number cap : ℕ) (order : List Entry) → 0 < inc → InPlaces order → IsSound (over_order M node inc number stamp cap order)
   recovers_sound node inc stamp number cap order i placed =
-      opens_sound node inc stamp number (record { count = length order; cap = cap; last = last_of order }) (registry_at M cap order (length order)) i (last_placed order placed)
+      opens_sound node inc stamp number (offering_of cap order) (registry_at M cap order (length order)) i (last_placed order placed)
 
   pub recovers_order : (node inc stamp number cap : ℕ) (order : List Entry) → OnOrder cap order (over_order M node inc number stamp cap order)
   recovers_order node inc stamp number cap order = record { length = refl; registry = refl }

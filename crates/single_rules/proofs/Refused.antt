@@ -9,7 +9,7 @@ use Rattle.cluster_rules.specs.Nodes.{becomes, halts, nothing}
 use Rattle.cluster_rules.specs.Updates.{Answer, InDoubt, Unwritten, submit, unlogged}
 use Rattle.cluster_rules.specs.Receiving.{checkpoint, receive, tick}
 use Rattle.single_rules.specs.Single.{IsSound, Single, ask, asking, at_rest, made}
-use Rattle.single_rules.proofs.Tests.{is_member, is_new, less, not_less, same}
+use Rattle.single_rules.proofs.Comparisons.{is_member, is_new, less, not_less, same}
 
 module _ {M : Machine} where
   pub halts_fenced : (a : Single M) (u : Update) (held : ℕ) (answer : Answer) → IsSound a → a.done < last_place → a.view < held

@@ -14,7 +14,7 @@ use Rattle.cluster_rules.specs.Updates.{InDoubt, Written, answers, unlogged}
 use Rattle.cluster_rules.specs.Receiving.{counts, hears, receive}
 use Rattle.single_rules.specs.Logging.{body_to_log, entry_of, no_entry, to_log}
 use Rattle.single_rules.specs.Single.{IsSound, Single, ask, asking, grant, granting, made, release, releasing}
-use Rattle.single_rules.proofs.Tests.{is_member, is_new, less, not_less, same}
+use Rattle.single_rules.proofs.Comparisons.{is_member, is_new, less, not_less, same}
 
 module _ {M : Machine} where
   answers_written : (x : NodeState M) (u : Update) (held : ℕ) (d : Decision) → nat_lt (number_of x) held ≡ false → (answers x u held Written d).appended ≡ entry_of x u d

@@ -7,8 +7,8 @@ use Rattle.cluster_rules.specs.Machines.{Machine, registry_at}
 use Rattle.single_rules.specs.Single.{Single}
 
 -- Each record of an order stands at its place.
-abbrev pub IsPlaced : List Entry → Type 0
-IsPlaced order = (k : ℕ) (e : Entry) → at_place order k ≡ Some e → e.place ≡ k
+abbrev pub InPlaces : List Entry → Type 0
+InPlaces order = (k : ℕ) (e : Entry) → at_place order k ≡ Some e → e.place ≡ k
 
 -- The record of the update behind k others: at the next place, of the next request.
 pub record IsMade {M : Machine} (a : Single M) (us : List Update) (k : ℕ) (e : Entry) : Type 0 where

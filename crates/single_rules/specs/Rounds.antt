@@ -49,21 +49,21 @@ module _ {M : Machine} where
   }
 
   -- An event, and then what is left and what it sent.
-  abbrev pub proceeds : Logged M → List Sent → (List Sent → NodeState M → Round M) → Round M
-  proceeds d left next = elim d.out.node [ None ↦ ends d left | Some y ↦ ahead d (next (left ++ sent d.out.effects) y) ]
+  abbrev pub carries_on : Logged M → List Sent → (List Sent → NodeState M → Round M) → Round M
+  carries_on d left next = elim d.out.node [ None ↦ ends d left | Some y ↦ ahead d (next (left ++ sent d.out.effects) y) ]
 
   -- The messages are delivered in the order in which they were sent, at most so many.
   abbrev pub delivered : ℕ → ℕ → Answer → List Sent → NodeState M → Round M
   delivered zero held answer left x = stays x left
   delivered (suc count) held answer [] x = stays x []
-  delivered (suc count) held answer (p ∷ left) x = proceeds (receive x p held answer) left (delivered count held answer)
+  delivered (suc count) held answer (p ∷ left) x = carries_on (receive x p held answer) left (delivered count held answer)
 
   -- An update is submitted, and the node hears its Ask, its Granted and its Release.
   abbrev pub round : ℕ → Answer → NodeState M → Update → Round M
-  round held answer x u = proceeds (unlogged (submit x u)) [] (delivered 3 held answer)
+  round held answer x u = carries_on (unlogged (submit x u)) [] (delivered 3 held answer)
 
-  abbrev pub joined : Round M → Round M → Round M
-  joined r q = record {
+  abbrev pub in_turn : Round M → Round M → Round M
+  in_turn r q = record {
     node = q.node;
     effects = r.effects ++ q.effects;
     records = r.records ++ q.records;
@@ -74,7 +74,7 @@ module _ {M : Machine} where
   abbrev pub and_then : Round M → (NodeState M → Round M) → Round M
   and_then r next = elim r.node [
     | None ↦ r
-    | Some y ↦ joined r (next y)
+    | Some y ↦ in_turn r (next y)
   ]
 
   abbrev pub rounds : ℕ → Answer → NodeState M → List Update → Round M

@@ -53,12 +53,13 @@ opened_over node inc view stamp o registry = record {
   last = o.last;
 }
 
+abbrev pub offering_of : ℕ → List Entry → Offering
+offering_of cap order = record { count = length order; cap = cap; last = last_of order }
+
 -- Just opened over a log of this capacity that holds this order.
 abbrev pub over_order : (M : Machine) → ℕ → ℕ → ℕ → ℕ → ℕ → List Entry → Single M
 over_order M node inc view stamp cap order =
-    opened_over node inc view stamp
-    (record { count = length order; cap = cap; last = last_of order })
-    (registry_at M cap order (length order))
+    opened_over node inc view stamp (offering_of cap order) (registry_at M cap order (length order))
 
 module _ {M : Machine} where
   -- Its incarnation counts from 1, what it logged was finished, and its last record stands at its place.

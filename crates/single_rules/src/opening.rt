@@ -6,7 +6,7 @@ ghost use Rattle.cluster_rules.specs.declared.effect.Effect.TheVariants.{Opened}
 ghost use Rattle.cluster_rules.specs.declared.offering.Offering.{Offering};
 ghost use Rattle.cluster_rules.specs.Joins.{entered, recovers, recovers_from, takes_view};
 ghost use Rattle.cluster_rules.specs.Nodes.{becomes};
-ghost use Rattle.single_rules.specs.Promises.{IsPlaced, OnOrder};
+ghost use Rattle.single_rules.specs.Promises.{InPlaces, OnOrder};
 ghost use Rattle.single_rules.specs.Single.{IsLastOf, IsSound, at_rest, opened_over, over_order, started, view_of_one};
 
 use crate::AnyMachine;
@@ -34,7 +34,7 @@ pub fn recovers_alone<M: AnyMachine>()
     ensures opens { (node inc stamp number cap : ℕ) (order : List Entry) → 0 < inc → 0 < number
         → recovers (entered (view_of_one number node inc) (started M.machine node inc stamp)) cap order
         ≡ becomes (at_rest (over_order M.machine node inc number stamp cap order)) (Opened number ∷ []) }
-    ensures sound { (node inc stamp number cap : ℕ) (order : List Entry) → 0 < inc → IsPlaced order
+    ensures sound { (node inc stamp number cap : ℕ) (order : List Entry) → 0 < inc → InPlaces order
         → IsSound (over_order M.machine node inc number stamp cap order) }
     ensures on_order { (node inc stamp number cap : ℕ) (order : List Entry)
         → OnOrder cap order (over_order M.machine node inc number stamp cap order) }
