@@ -1,0 +1,4 @@
+pub mod ConnectionLaws
+pub mod ItemLaws
+pub mod TakingLaws
+pub mod TurnLaws

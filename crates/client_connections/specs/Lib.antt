@@ -1,0 +1,5 @@
+pub mod Clients
+pub mod Courses
+pub mod Finishing
+pub mod Items
+pub mod Taking

@@ -1,0 +1,4 @@
+pub mod Texts
+pub mod Replays
+pub mod Lasts
+pub mod Outcomes
