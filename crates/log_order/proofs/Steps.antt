@@ -81,12 +81,12 @@ base_good x last is d same =
     let at : IsRecordAt x.version x.base x.last d = subst (IsLast x) same is in
     record { valid = record_good x.version x.base x.last d at; before = ap (λ n. n + 1) at.place_is }
 
-decoded_last : (cap : ℕ) (order : List Entry) (base : ℕ) → last_behind (last_of (take base order)) (drop base order) ≡ last_of order
-decoded_last cap order base = last_joined (take base order) (drop base order) ∙ ap last_of (take-append-drop base order)
+decoded_last : (order : List Entry) (base : ℕ) → last_behind (last_of (take base order)) (drop base order) ≡ last_of order
+decoded_last order base = last_joined (take base order) (drop base order) ∙ ap last_of (take-append-drop base order)
 
 last_placed : (cap : ℕ) (order : List Entry) (x : Found) (e : Entry) → IsOrderOf cap order x → last_of order ≡ Some e → IsPlacedBefore (x.base + 1 + length (drop x.base order)) e
 last_placed cap order x e is same =
-    last_good x.version (x.base + 1) (last_of (take x.base order)) x.records (drop x.base order) e (base_good x (last_of (take x.base order)) is.decodes.last) is.decodes.records (decoded_last cap order x.base ∙ same)
+    last_good x.version (x.base + 1) (last_of (take x.base order)) x.records (drop x.base order) e (base_good x (last_of (take x.base order)) is.decodes.last) is.decodes.records (decoded_last order x.base ∙ same)
 
 -- ---- a checkpoint
 
@@ -158,5 +158,5 @@ order_recovered cap order x held all is contents =
     let same : held ≡ contents_at cap order x.base = gives_contents x (Ok held) (contents_at cap order x.base) contents tt is.decodes in
     let range : IsCap cap = subst IsCap is.cap_is is.decodes.state.range in
     let kept = within cap order x.base range all in
-    let there : IsRecoveredOrder cap order (contents_at cap order x.base) = record { last = decoded_last cap order x.base; registry = decoded_registry cap order x.base kept } in
+    let there : IsRecoveredOrder cap order (contents_at cap order x.base) = record { last = decoded_last order x.base; registry = decoded_registry cap order x.base kept } in
     subst (IsRecoveredOrder cap order) (sym same) there
