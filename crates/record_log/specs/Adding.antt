@@ -18,7 +18,8 @@ pub record Appends (log : LogValue) (bytes : List ℕ) (v : DiskView) (r : Resul
   pub stands : (x : Found) → StandsFor log v x → IfOk r (λ new. StandsFor new w (with_record x bytes))
   pub any_moment : (x : Found) → StandsFor log v x → Passes (IsInChange v.current.held x (with_record x bytes)) v w
   pub answer : AnsweredBy log.claim v (disk_answer r) w
-  pub calls : Made (write log.claim (log.tail + 1) (framed_record bytes) ∷ sync log.claim ∷ write log.claim log.tail (1 ∷ []) ∷ sync log.claim ∷ []) v (disk_answer r) w
+  pub calls : Made (write log.claim (log.tail + 1) (framed_record bytes) ∷ sync log.claim
+      ∷ write log.claim log.tail (1 ∷ []) ∷ sync log.claim ∷ []) v (disk_answer r) w
   pub held : w.current.held ≡ v.current.held
   pub same : SameDisk v w
 
@@ -55,7 +56,8 @@ CheckpointsTo log state last v (Err Memory) w = w ≡ v
 -- A checkpoint was made, and the bytes were appended behind it.
 abbrev pub AddsBehind : LogValue → List ℕ → List ℕ → List ℕ → DiskView → Result LogValue AddFault → DiskView → Type 0
 AddsBehind log state last bytes v r w =
-    (u : DiskView) × Checkpoints log state last v (Ok (begun log (length state) (length last))) u × AppendsTo (begun log (length state) (length last)) bytes u r w
+    (u : DiskView) × Checkpoints log state last v (Ok (begun log (length state) (length last))) u
+    × AppendsTo (begun log (length state) (length last)) bytes u r w
 
 -- The first argument: a checkpoint is due, with this state and last record. Out of memory comes before any call.
 abbrev pub Adds : Bool → LogValue → List ℕ → List ℕ → List ℕ → DiskView → Result LogValue AddFault → DiskView → Type 0

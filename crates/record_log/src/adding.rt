@@ -17,8 +17,10 @@ use std::alloc::{AllocError, Global};
 use update_records::{Record, encode};
 
 impl RecordLog {
-    /// Adds a record behind the last one. A checkpoint is written before it where the record doesn't fit or the log isn't of
-    /// version 2: the registry behind the last record, and that record.
+    /// Adds a record behind the last one.
+    ///
+    /// Where it doesn't fit, or the log isn't of version 2, a checkpoint is written before it: the registry behind the
+    /// last record, and that record.
     ///
     /// A fault hands nothing back: the log must be recovered again.
     pub fn add<D: Disk>(
@@ -32,7 +34,8 @@ impl RecordLog {
         requires cap { registry.now.cap ≡ self.cap }
         requires last { (last ≡ None) ↔ (self.base + self.records ≡ 0) }
         requires disk_size { image_size self.cap ≤ (D.view disk.old).size }
-        ensures adds { Adds (is_due self (length (record_text entry.now))) self (registry_text (keys_in registry.now)) (last_text (option_map (λ e. e.now) last.entry)) (record_text entry.now) (D.view disk.old) result (D.view disk.new) }
+        ensures adds { let state = registry_text (keys_in registry.now) in let final = last_text (option_map (λ e. e.now) last.entry) in
+            let bytes = record_text entry.now in Adds (is_due self (length bytes)) self state final bytes (D.view disk.old) result (D.view disk.new) }
         ensures same { SameDisk (D.view disk.old) (D.view disk.new) }
         ensures held { (D.view disk.new).current.held ≡ (D.view disk.old).current.held }
         ensures token { IfOk result (λ log. log.claim ≡ self.claim) }
@@ -59,7 +62,8 @@ impl RecordLog {
         requires cap { registry.now.cap ≡ self.cap }
         requires last { (last ≡ None) ↔ (self.base + self.records ≡ 0) }
         requires disk_size { image_size self.cap ≤ (D.view disk.old).size }
-        ensures checkpoints { CheckpointsTo self (registry_text (keys_in registry.now)) (last_text (option_map (λ e. e.now) last.entry)) (D.view disk.old) result (D.view disk.new) }
+        ensures checkpoints { let state = registry_text (keys_in registry.now) in let final = last_text (option_map (λ e. e.now) last.entry) in
+            CheckpointsTo self state final (D.view disk.old) result (D.view disk.new) }
         ensures same { SameDisk (D.view disk.old) (D.view disk.new) }
         ensures held { (D.view disk.new).current.held ≡ (D.view disk.old).current.held }
         ensures token { IfOk result (λ log. log.claim ≡ self.claim) }
@@ -94,7 +98,8 @@ impl RecordLog {
         requires cap { registry.now.cap ≡ self.cap }
         requires last { (last ≡ None) ↔ (self.base + self.records ≡ 0) }
         requires disk_size { image_size self.cap ≤ (D.view disk.old).size }
-        ensures adds { Adds true self (registry_text (keys_in registry.now)) (last_text (option_map (λ e. e.now) last.entry)) bytes.now (D.view disk.old) result (D.view disk.new) }
+        ensures adds { let state = registry_text (keys_in registry.now) in let final = last_text (option_map (λ e. e.now) last.entry) in
+            Adds true self state final bytes.now (D.view disk.old) result (D.view disk.new) }
         ensures same { SameDisk (D.view disk.old) (D.view disk.new) }
         ensures held { (D.view disk.new).current.held ≡ (D.view disk.old).current.held }
         ensures token { IfOk result (λ log. log.claim ≡ self.claim) }
