@@ -7,14 +7,13 @@ use Rattle.update_records.specs.declared.update.Update.{Update}
 use Rattle.cluster_rules.specs.declared.effect.CloseCause.{CloseCause}
 use Rattle.cluster_rules.specs.declared.effect.Effect.{Effect}
 use Rattle.cluster_rules.specs.declared.effect.Effect.TheVariants.{Closed}
-use Rattle.client_connections.specs.declared.connections.Heard.{Heard}
 use Rattle.client_connections.specs.declared.connections.Heard.TheVariants.{Refused, Went}
 use Rattle.client_connections.specs.declared.taken.Taken.{Taken}
 use Rattle.client_connections.specs.declared.took.Ending.{Ending}
 use Rattle.client_connections.specs.declared.took.Ending.TheVariants.{Fails, Rests, Waits}
 use Rattle.client_connections.specs.Clients.{Client, Clients, Common, client_at, left_by, left_if_open, put_back}
-use Rattle.client_connections.specs.Courses.{EndsBy, GoesSoFar, GoneOn, HeardBy, HearsSoFar, IsClosed, course_of}
-use Rattle.client_connections.specs.Taking.{Course, GoesOn, Hears, HearsBy, Resumes, Serving, Takes, Tells, course_from, fed_client, refusal}
+use Rattle.client_connections.specs.Courses.{EndsBy, GoesSoFar, GoneOn, HearsSoFar, IsClosed, course_of}
+use Rattle.client_connections.specs.Taking.{Course, GoesOn, Hears, HearsBy, Resumes, Serving, Takes, course_from, fed_client, refusal}
 
 abbrev Conns : Type 0
 Conns = List (ℕ × Client)

@@ -1,13 +1,12 @@
 -- Items are taken in turn, the next behind those that were.
 use Rattle.std.proofs.Common.{◌≡◌, ℕ, true, not, List, [], ◌∷◌, ◌++◌, refl, sym, ap, ◌∙◌, subst, append_assoc}
 use Rattle.std.proofs.lemmas.List.{append-nil}
-use Rattle.std.specs.List.{fold}
 use Rattle.rpc_calls.specs.declared.item.Item.{Item}
 use Rattle.rpc_calls.specs.Intakes.{Holds, Kept}
 use Rattle.client_connections.specs.declared.took.Ending.{Ending}
 use Rattle.client_connections.specs.Clients.{may_take}
 use Rattle.client_connections.specs.Courses.{Ended, WentOn}
-use Rattle.client_connections.specs.Taking.{Course, Ends, MayAll, Serving, Takes, is_rest, takes_all, takes_one}
+use Rattle.client_connections.specs.Taking.{Course, MayAll, Serving, Takes, is_rest, takes_all, takes_one}
 
 -- The items so far.
 pub record Carries (v : Serving) (c : ℕ) (before after : Kept) (p q : Course) : Type 0 where

@@ -1,8 +1,8 @@
 -- The connections of one node.
-use Rattle.std.specs.Prelude.{◌≡◌, ℕ, ◌+◌, ◌≤◌, Bool, false, not, ◌&&◌, List, [], ◌∷◌, length, Option, Some, None, nat_eq, nat_lt, if◌then◌else◌}
+use Rattle.std.specs.Prelude.{◌≡◌, ℕ, ◌+◌, ◌≤◌, Bool, false, not, ◌&&◌, List, [], length, map, Option, Some, None, nat_eq, nat_lt, if◌then◌else◌}
 use Rattle.std.specs.BTreeMap.{insert_entry, is_at}
 use Rattle.std.specs.List.{list_any}
-use Rattle.std.specs.Map.{lookup, remove_entry, set_value}
+use Rattle.std.specs.Map.{keys_of, lookup, remove_entry, set_value}
 use Rattle.std.specs.Ordering.{nat_cmp}
 use Rattle.context_handles.specs.Table.{Table}
 use Rattle.context_handles.specs.Table as handles
@@ -10,7 +10,7 @@ use Rattle.rpc_calls.specs.declared.side.Side.TheVariants.{Server}
 use Rattle.rpc_calls.specs.Intakes.{Kept, stream_length}
 use Rattle.rpc_calls.specs.Intakes as intakes
 use Rattle.rpc_assoc.specs.State.{State, group_of, unbound}
-use Rattle.cluster_rules.specs.declared.effect.CloseCause.TheVariants.{Limit, Peer}
+use Rattle.cluster_rules.specs.declared.effect.CloseCause.TheVariants.{Limit, NodeStopped, Peer}
 use Rattle.cluster_rules.specs.declared.effect.Effect.{Effect}
 use Rattle.cluster_rules.specs.declared.effect.Effect.TheVariants.{Closed}
 use Rattle.registry_server.specs.Servers.{without}
@@ -103,6 +103,13 @@ connected c s = if nat_lt (length s.conns) most_clients then (with_new c s, None
 abbrev pub hung_up : ℕ → Option Client → Clients → Clients × Option Effect
 hung_up c None s = (s, None)
 hung_up c (Some k) s = (left_by c k s, Some (Closed c Peer))
+
+-- Where the node stops each is closed.
+abbrev pub closings : List (ℕ × Client) → List Effect
+closings conns = map (λ conn. Closed conn NodeStopped) (keys_of conns)
+
+abbrev pub without_any : Clients → Clients
+without_any s = record s { conns = [] }
 
 -- ---- what is always so
 

@@ -1,5 +1,5 @@
 -- What one item of a client's stream comes to, and what it changes.
-use Rattle.std.specs.Prelude.{◌≡◌, ℕ, ◌+◌, ◌-◌, ◌<◌, ◌++◌, Bool, false, List, [], ◌∷◌, Option, Some, None, Result, Ok, Err}
+use Rattle.std.specs.Prelude.{◌≡◌, ℕ, ◌+◌, ◌-◌, ◌++◌, false, List, [], ◌∷◌, Option, Some, None, Result, Ok, Err}
 use Rattle.wire_fields.specs.declared.endian.Endian.TheVariants.{Little}
 use Rattle.ndr_values.specs.declared.handle.WireHandle.{WireHandle}
 use Rattle.update_records.specs.declared.update.Update.{Update}
@@ -28,7 +28,6 @@ use Rattle.rpc_assoc.specs.Association.{group_wanted, reply_size, step_of}
 use Rattle.rpc_assoc.specs.State.{State, group_of}
 use Rattle.registry_server.specs.Answers.{text_of}
 use Rattle.registry_server.specs.Parameters.{or_status}
-use Rattle.client_connections.specs.declared.origin.Origin.{Origin}
 use Rattle.client_connections.specs.declared.origin.Origin.TheVariants.{Call}
 use Rattle.client_connections.specs.declared.took.CallEnd.{CallEnd}
 use Rattle.client_connections.specs.declared.took.CallEnd.TheVariants.{Results, Fault, Sends}

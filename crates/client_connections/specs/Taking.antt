@@ -19,7 +19,7 @@ use Rattle.client_connections.specs.declared.took.Ending.{Ending}
 use Rattle.client_connections.specs.declared.took.Ending.TheVariants.{Waits, Fails, Rests}
 use Rattle.client_connections.specs.declared.took.Took.{Took}
 use Rattle.client_connections.specs.declared.took.Took.TheVariants as took
-use Rattle.client_connections.specs.Clients.{Client, Clients, Common, client_at, left_by, may_take, most_stream, put_back}
+use Rattle.client_connections.specs.Clients.{Client, Clients, Common, left_by, may_take, most_stream, put_back}
 use Rattle.client_connections.specs.Items.{ClientState, item_of, state}
 
 -- The node as it is after the event: its keys where it is open, and how many records they have.

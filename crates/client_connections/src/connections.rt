@@ -1,8 +1,8 @@
 //! The connections of a node.
 
-ghost use Rattle.std.specs.Prelude.{◌≡◌, ◌+◌, ◌<◌, ◌≤◌, IfOk, None, OnOk, is_some, option_map};
+ghost use Rattle.std.specs.Prelude.{◌≡◌, ◌≤◌, [], IfOk, length, None, OnOk, is_some, option_map};
 ghost use Rattle.registry_defs.specs.Contents.{keys_in};
-ghost use Rattle.client_connections.specs.Clients.{client_at, connected, hung_up, left_if_open, no_clients};
+ghost use Rattle.client_connections.specs.Clients.{client_at, closings, connected, hung_up, left_if_open, most_clients, no_clients, without_any};
 ghost use Rattle.client_connections.specs.Courses.{EndsBy, GoesSoFar, HearsSoFar, IsClosed};
 ghost use Rattle.client_connections.specs.Finishing.{batched};
 ghost use Rattle.client_connections.specs.Taking.{Hears, Resumes, cause_of, serving};
@@ -41,11 +41,14 @@ pub struct Connections {
 }
 
 impl Model for Connections {
-    ghost use Rattle.client_connections.specs.Clients.{Clients};
+    ghost use Rattle.std.specs.Prelude.{◌≤◌, length};
+    ghost use Rattle.client_connections.specs.Clients.{Clients, most_clients};
 
     ghost Value = { Clients };
 
     ghost view = { λ s. record { common = s.shared; conns = s.conns.entries } };
+
+    ghost invariant = { λ s. length s.conns.entries ≤ most_clients };
 }
 
 impl Connections {
@@ -79,6 +82,22 @@ impl Connections {
         ensures { result ≡ is_some (client_at conn self.now) }
     {
         self.conns.contains_key(&conn)
+    }
+
+    /// How many connections are open.
+    pub fn len(&self) -> usize
+        ensures count { result ≡ length self.now.conns }
+        ensures most { result ≤ most_clients }
+    {
+        self.conns.len()
+    }
+
+    /// The node stops: each connection is closed, by ascending numbers.
+    pub fn stop(&mut self) -> Result<Vec<Effect>, AllocError>
+        ensures effects { IfOk result (λ effects. effects.items ≡ closings self.old.conns) }
+        ensures gone { OnOk result (self.new ≡ without_any self.old) }
+    {
+        close_each(self.shared.alloc, &mut self.conns)
     }
 
     /// The client hangs up.
@@ -235,6 +254,24 @@ impl Connections {
             }
         }
     }
+}
+
+fn close_each(
+    alloc: Global,
+    conns: &mut BTreeMap<u32, Connection>,
+) -> Result<Vec<Effect>, AllocError>
+    ensures effects { IfOk result (λ effects. effects.items ≡ closings conns.old.entries) }
+    ensures gone { OnOk result (conns.new.entries ≡ []) }
+    ensures fewer { length conns.new.entries ≤ length conns.old.entries }
+{
+    let mut effects = Vec::new(alloc);
+    'conns: while let Some((conn, _)) = conns.pop_first() {
+        effects.push(Effect::Closed {
+            conn,
+            cause: CloseCause::NodeStopped,
+        })?;
+    }
+    Ok(effects)
 }
 
 /// Why a connection is closed whose stream has this fault.

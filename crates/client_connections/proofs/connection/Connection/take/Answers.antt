@@ -2,7 +2,7 @@ use Rattle.std.proofs.Common.{option_map}
 use Rattle.registry_defs.specs.Contents.{keys_in}
 use Rattle.client_connections.specs.Courses.{course_of}
 use Rattle.client_connections.specs.Taking.{serving}
-use Rattle.client_connections.proofs.TakingLaws.{begins, carries_on, ends}
+use Rattle.client_connections.proofs.TakingLaws.{begins, carries_on}
 use Rattle.client_connections.proofs.connection.Connection.take.Goals as goal
 
 pub items-init : goal.items-init
