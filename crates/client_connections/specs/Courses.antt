@@ -1,4 +1,4 @@
--- Cited by private functions alone: one turn of the loop that takes items.
+-- Cited by private functions alone: one turn of the loop that takes items, and what stands between two steps of an event.
 use Rattle.std.specs.Prelude.{◌≡◌, ℕ, ◌<◌, ◌≤◌, ◌+◌, true, not, List, [], ◌∷◌, ◌++◌, length, Option, Some, None}
 use Rattle.rpc_calls.specs.declared.item.Item.{Item}
 use Rattle.rpc_calls.specs.Intakes.{Holds, Kept}
@@ -10,11 +10,9 @@ use Rattle.client_connections.specs.declared.took.Ending.{Ending}
 use Rattle.client_connections.specs.declared.took.Ending.TheVariants.{Fails}
 use Rattle.client_connections.specs.declared.connections.Heard.{Heard}
 use Rattle.client_connections.specs.declared.connections.Heard.TheVariants.{Refused, Went}
-use Rattle.client_connections.specs.declared.finishing.Finished.{Finished}
 use Rattle.client_connections.specs.declared.origin.Origin.{Origin}
 use Rattle.client_connections.specs.Clients.{Client, Clients, Common, client_at, left_if_open, may_take, put_back}
 use Rattle.client_connections.specs.Taking.{Course, Ends, Serving, Takes, cause_of, fed_client, is_rest, refusal, takes_one}
-use Rattle.client_connections.specs.Finishing.{Finish}
 use Rattle.client_connections.specs.Items.{most_taken}
 
 abbrev pub course_of : Common → State → Taken → Course
@@ -81,9 +79,6 @@ fed_unless None piece k = fed_client k piece
 fed_unless (Some cause) piece k = k
 
 -- ---- finishing
-
-abbrev pub finish : Clients → Finished → Finish
-finish s end = record { clients = s; effect = end.effect; resumes = end.resumes }
 
 -- An update that waits leaves room for a handle.
 pub record HasRoom (s : Common) : Type 0 where

@@ -11,6 +11,7 @@ use Rattle.rpc_assoc.specs.Association.{reply_size}
 use Rattle.rpc_assoc.specs.State.{State, group_of}
 use Rattle.cluster_rules.specs.declared.effect.Effect.{Effect}
 use Rattle.cluster_rules.specs.declared.effect.Effect.TheVariants.{Batched, Reply}
+use Rattle.client_connections.specs.declared.finishing.Finished.{Finished}
 use Rattle.client_connections.specs.declared.origin.Origin.{Origin}
 use Rattle.client_connections.specs.declared.origin.Origin.TheVariants.{Call, Batch}
 use Rattle.client_connections.specs.Clients.{Client, Clients, Common, client_at}
@@ -21,6 +22,10 @@ pub record Finish : Type 0 where
   pub clients : Clients
   pub effect : Option Effect
   pub resumes : Option ℕ
+
+-- What was answered, with the clients behind it.
+abbrev pub finish : Clients → Finished → Finish
+finish s end = record { clients = s; effect = end.effect; resumes = end.resumes }
 
 -- ---- the handle of a key that was created
 

@@ -2,8 +2,8 @@
 
 ghost use Rattle.std.specs.Prelude.{◌≡◌, IfOk, None};
 ghost use Rattle.client_connections.specs.Clients.{client_at};
-ghost use Rattle.client_connections.specs.Courses.{HasRoom, finish};
-ghost use Rattle.client_connections.specs.Finishing.{call_finished, finished, finished_for, opened_on};
+ghost use Rattle.client_connections.specs.Courses.{HasRoom};
+ghost use Rattle.client_connections.specs.Finishing.{call_finished, finish, finished, finished_for, opened_on};
 
 use crate::connections::Connections;
 use crate::origin::Origin;
