@@ -1,5 +1,5 @@
 //! An update order that was recovered, with what its log doesn't keep.
-ghost use Rattle.std.specs.Prelude.{◌≡◌, ◌↔◌, ◌≤◌, ◌+◌, IsTrue, option_map, None};
+ghost use Rattle.std.specs.Prelude.{◌≡◌, ◌↔◌, ◌≤◌, IsTrue, None};
 ghost use Rattle.disk_core.specs.Notes.{view_of};
 ghost use Rattle.quorum_log.specs.Layout.{image_size};
 

@@ -1,5 +1,4 @@
 //! What a row finds.
-ghost use Rattle.std.specs.Prelude.{◌+◌};
 
 use crate::fault::PlayFault;
 use crate::order::Order;
