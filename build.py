@@ -21,8 +21,9 @@ PROGRAM = TOP / "crates" / "mscs" / "out" / "mscs"
 RECORD = PROGRAM.with_suffix(".sources")
 PARTS = ("src", "specs", "proofs")
 KIT = "rattle-kit-13f"
-# What a first build of all crates takes, and what one proof may take of the memory.
-PROCESSOR_MINUTES = 25
+# What a first build of all crates takes on four free processors, and what one proof may take of the memory. More
+# processors don't make it much shorter: the last crates stand on one another and are proved in turn.
+FIRST_BUILD_MINUTES = 19
 PROOF_BYTES = 4 << 30
 CANNOT = 70
 
@@ -193,10 +194,8 @@ def prove_crates(work, crates, chain, log):
 
 def build(crates, listed, work, sources):
     log_path = work / "build.log"
-    count = processors()
     tell(f"the program isn't built from these sources yet: {len(crates)} crates are to be proved first")
-    minutes = -(-PROCESSOR_MINUTES // count)
-    tell(f"a first build takes about {minutes} minutes on {count} free processors; later ones prove what changed")
+    tell(f"a first build takes about {FIRST_BUILD_MINUTES} minutes on 4 free processors; later ones prove what changed")
     tell(f"the work is in {work}, the log of it in {log_path}")
     (work / "crates").mkdir(exist_ok=True)
     with open(log_path, "w") as log:
