@@ -32,7 +32,9 @@ impl Registry {
         requires first { 0 < place }
         requires last { place < 2 ^ 63 }
         requires valid { FitTogether key.now subkey.now }
-        ensures { Applies result self.old self.new (if_born birth (key_at (folded_parts key.now) (keys_in self.old)) (keys_in self.old) (create_applied self.old.cap place stamp key.now subkey.now (keys_in self.old))) }
+        ensures { Applies result self.old self.new
+            (if_born birth (key_at (folded_parts key.now) (keys_in self.old)) (keys_in self.old)
+            (create_applied self.old.cap place stamp key.now subkey.now (keys_in self.old))) }
     {
         match self.born(key, birth) {
             None => Ok(refused(KEY_DELETED)),
@@ -63,7 +65,9 @@ impl Registry {
         bytes: &[u8],
     ) -> Result<Outcome, AllocError>
         requires valid { length bytes.now ≤ 49152 }
-        ensures { Applies result self.old self.new (if_born birth (key_at (folded_parts key.now) (keys_in self.old)) (keys_in self.old) (set_value_applied self.old.cap stamp key.now name.now kind bytes.now (keys_in self.old))) }
+        ensures { Applies result self.old self.new
+            (if_born birth (key_at (folded_parts key.now) (keys_in self.old)) (keys_in self.old)
+            (set_value_applied self.old.cap stamp key.now name.now kind bytes.now (keys_in self.old))) }
     {
         match self.born(key, birth) {
             None => Ok(refused(KEY_DELETED)),
@@ -90,7 +94,9 @@ impl Registry {
         birth: u64,
         name: &Name,
     ) -> Outcome
-        ensures { IsApplied result self.old self.new (if_born birth (key_at (folded_parts key.now) (keys_in self.old)) (keys_in self.old) (delete_value_applied stamp key.now name.now (keys_in self.old))) }
+        ensures { IsApplied result self.old self.new
+            (if_born birth (key_at (folded_parts key.now) (keys_in self.old)) (keys_in self.old)
+            (delete_value_applied stamp key.now name.now (keys_in self.old))) }
     {
         match self.born(key, birth) {
             None => refused(KEY_DELETED),
@@ -115,7 +121,9 @@ impl Registry {
         subkey: &Path,
     ) -> Outcome
         requires valid { 0 < length subkey.now }
-        ensures { IsApplied result self.old self.new (if_born birth (key_at (folded_parts key.now) (keys_in self.old)) (keys_in self.old) (delete_key_applied stamp (folded_parts (key.now ++ subkey.now)) (keys_in self.old))) }
+        ensures { IsApplied result self.old self.new
+            (if_born birth (key_at (folded_parts key.now) (keys_in self.old)) (keys_in self.old)
+            (delete_key_applied stamp (folded_parts (key.now ++ subkey.now)) (keys_in self.old))) }
     {
         match self.born(key, birth) {
             None => refused(KEY_DELETED),
@@ -136,7 +144,8 @@ impl Registry {
 
     /// The key at the path, where it has that creation number.
     fn born(&self, key: &Path, birth: u64) -> Option<&Key>
-        ensures { MatchOption result (is_born birth (key_at (folded_parts key.now) (keys_in self.now)) ≡ false) (λ found. IsBornAt birth (folded_parts key.now) (keys_in self.now) found.now) }
+        ensures { MatchOption result (is_born birth (key_at (folded_parts key.now) (keys_in self.now)) ≡ false)
+            (λ found. IsBornAt birth (folded_parts key.now) (keys_in self.now) found.now) }
     {
         match self.key_at(key) {
             None => None,

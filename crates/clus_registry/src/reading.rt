@@ -28,7 +28,8 @@ impl Registry {
 
     /// The type and the data of a value.
     pub fn value(&self, key: &Path, name: &Name) -> Option<(u32, &[u8])>
-        ensures found { MatchOption result (value_in (folded_parts key.now) (folded name.now) (keys_in self.now) ≡ None) (λ found. option_map type_and_data (value_in (folded_parts key.now) (folded name.now) (keys_in self.now)) ≡ Some (found.0, found.1.now)) }
+        ensures found { MatchOption result (value_in (folded_parts key.now) (folded name.now) (keys_in self.now) ≡ None)
+            (λ found. option_map type_and_data (value_in (folded_parts key.now) (folded name.now) (keys_in self.now)) ≡ Some (found.0, found.1.now)) }
         ensures short { IfSome result (λ found. length found.1.now ≤ 49152) }
     {
         match self.key_at(key) {
@@ -42,7 +43,8 @@ impl Registry {
 
     /// The name and the written time of the subkey with exactly so many smaller ones.
     pub fn nth_key(&self, key: &Path, index: u32) -> Option<(&[u16], u64)>
-        ensures found { MatchOption result (nth_subkey (folded_parts key.now) index (keys_in self.now) ≡ None) (λ found. option_map name_and_time (nth_subkey (folded_parts key.now) index (keys_in self.now)) ≡ Some (found.0.now, found.1)) }
+        ensures found { MatchOption result (nth_subkey (folded_parts key.now) index (keys_in self.now) ≡ None)
+            (λ found. option_map name_and_time (nth_subkey (folded_parts key.now) index (keys_in self.now)) ≡ Some (found.0.now, found.1)) }
         ensures name { IfSome result (λ found. IsPart found.0.now) }
     {
         match self.key_at(key) {
@@ -56,7 +58,8 @@ impl Registry {
 
     /// The name, the type and the data of the value with exactly so many smaller ones.
     pub fn nth_value(&self, key: &Path, index: u32) -> Option<(&[u16], u32, &[u8])>
-        ensures found { MatchOption result (nth_value (folded_parts key.now) index (keys_in self.now) ≡ None) (λ found. option_map name_type_and_data (nth_value (folded_parts key.now) index (keys_in self.now)) ≡ Some (found.0.now, found.1, found.2.now)) }
+        ensures found { MatchOption result (nth_value (folded_parts key.now) index (keys_in self.now) ≡ None)
+            (λ found. option_map name_type_and_data (nth_value (folded_parts key.now) index (keys_in self.now)) ≡ Some (found.0.now, found.1, found.2.now)) }
         ensures name { IfSome result (λ found. IsName found.0.now) }
         ensures short { IfSome result (λ found. length found.2.now ≤ 49152) }
     {
@@ -81,7 +84,8 @@ impl Registry {
 
     /// The key at a path, with all below it.
     pub(crate) fn key_at(&self, path: &Path) -> Option<&Key>
-        ensures found { MatchOption result (key_at (folded_parts path.now) (keys_in self.now) ≡ None) (λ key. IsAt (folded_parts path.now) (keys_in self.now) key.now) }
+        ensures found { MatchOption result (key_at (folded_parts path.now) (keys_in self.now) ≡ None)
+            (λ key. IsAt (folded_parts path.now) (keys_in self.now) key.now) }
         ensures limits { IsRegistry (keys_in self.now) }
         ensures rising { IfSome result (λ key. RisingKeys (keys_of key.now)) }
         ensures fields { IfSome result (λ key. HaveFields (keys_of key.now)) }

@@ -70,7 +70,8 @@ impl StateBuild {
         // What is read is a registry within the cap, and is encoded so.
         ensures found { (stream : List ℕ) → IsFed self stream → IfOk result (λ registry. IsReadFrom self.cap stream registry) }
         // What is encoded so is read, unless memory runs out.
-        ensures only { (stream : List ℕ) → IsFed self stream → (keys : Keys) → IsRegistry keys → size keys ≤ self.cap → stream ≡ registry_text keys → GivesKeys result keys }
+        ensures only { (stream : List ℕ) → IsFed self stream → (keys : Keys) → IsRegistry keys → size keys ≤ self.cap → stream ≡ registry_text keys
+            → GivesKeys result keys }
         // Which field is at fault, one that is cut off among them.
         ensures fault { (stream : List ℕ) → IsFed self stream → IfErr result (FailsOn self.cap stream) }
     {

@@ -224,7 +224,7 @@ fn readings_of_a_key(rt: HostRuntime) -> Result<(), Fail> {
     Ok(())
 }
 
-const FULL_STEPS: [Step; 6] = [
+const FULL_STEPS: [Step; 10] = [
     (0, SET_VALUE, "", 0, "V", 4067, [0, 0, 0], 4095),
     (0, SET_VALUE, "", 0, "V", 4069, [112, 0, 0], 4095),
     (0, SET_VALUE, "", 0, "V", 4068, [0, 0, 0], 4096),
@@ -232,6 +232,11 @@ const FULL_STEPS: [Step; 6] = [
     (5, SET_VALUE, "", 0, "V", 4068, [112, 0, 0], 4096),
     (5, DELETE_VALUE, "", 0, "V", 0, [0, 0, 0], 24),
     (0, SET_VALUE, "", 0, "V", 4068, [0, 0, 0], 4096),
+    // a key takes 20 bytes, and none of a path is made where all of it doesn't fit
+    (0, CREATE, "", 0, "A", 0, [112, 0, 0], 4096),
+    (0, SET_VALUE, "", 0, "V", 4048, [0, 0, 0], 4076),
+    (0, CREATE, "", 0, r"A\b", 0, [112, 0, 0], 4076),
+    (0, CREATE, "", 0, "A", 0, [0, 1, 10], 4096),
 ];
 
 #[test]

@@ -80,13 +80,16 @@ performed (SetValue handle name kind bytes cb_data) held node registry =
 performed (DeleteValue handle name) held node registry =
     if_open registry (DeleteValue handle name) (λ keys. Send (update.DeleteValue held.path held.birth name))
 performed (QueryValue handle name cb_data) held node registry =
-    told registry held (QueryValue handle name cb_data) (λ keys. value_told (QueryValue handle name cb_data) cb_data (value_in (folded_parts held.path) (folded name) keys))
+    told registry held (QueryValue handle name cb_data)
+    (λ keys. value_told (QueryValue handle name cb_data) cb_data (value_in (folded_parts held.path) (folded name) keys))
 performed (DeleteKey handle subkey) held node registry =
     if_open registry (DeleteKey handle subkey) (λ keys. Send (update.DeleteKey held.path held.birth (parts_of subkey)))
 performed (EnumValue handle index cb_data) held node registry =
-    told registry held (EnumValue handle index cb_data) (λ keys. entry_told (EnumValue handle index cb_data) cb_data (nth_value (folded_parts held.path) index keys))
+    told registry held (EnumValue handle index cb_data)
+    (λ keys. entry_told (EnumValue handle index cb_data) cb_data (nth_value (folded_parts held.path) index keys))
 performed (CloseKey handle) held node registry = Close 37 handle
-performed (QueryInfoKey handle) held node registry = told registry held (QueryInfoKey handle) (λ keys. info_told (QueryInfoKey handle) (info_at (folded_parts held.path) keys))
+performed (QueryInfoKey handle) held node registry =
+    told registry held (QueryInfoKey handle) (λ keys. info_told (QueryInfoKey handle) (info_at (folded_parts held.path) keys))
 
 -- ---- the checks in order
 

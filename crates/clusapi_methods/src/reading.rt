@@ -44,7 +44,9 @@ pub(crate) fn enum_key(
     index: u32,
     registry: Option<&Registry>,
 ) -> Result<Planned, AllocError>
-    ensures planned { IfOk result (λ planned. planned ≡ told (option_map (λ kept. keys_in kept.now) registry.entry) held.now input.now (λ keys. key_told input.now (nth_subkey (folded_parts held.now.path) index keys))) }
+    ensures planned { IfOk result
+        (λ planned. planned ≡ told (option_map (λ kept. keys_in kept.now) registry.entry) held.now
+        input.now (λ keys. key_told input.now (nth_subkey (folded_parts held.now.path) index keys))) }
     ensures bounded { IfOk result FollowsBounded }
 {
     let Some(registry) = registry else {
@@ -71,7 +73,9 @@ pub(crate) fn query_value(
     registry: Option<&Registry>,
 ) -> Result<Planned, AllocError>
     requires { LacksZero text.now }
-    ensures planned { IfOk result (λ planned. planned ≡ unless_refused (name_refusal text.now) input.now (told (option_map (λ kept. keys_in kept.now) registry.entry) held.now input.now (λ keys. value_told input.now cb_data (value_in (folded_parts held.now.path) (folded text.now) keys)))) }
+    ensures planned { IfOk result
+        (λ planned. planned ≡ unless_refused (name_refusal text.now) input.now (told (option_map (λ kept. keys_in kept.now) registry.entry) held.now
+        input.now (λ keys. value_told input.now cb_data (value_in (folded_parts held.now.path) (folded text.now) keys)))) }
     ensures bounded { IfOk result FollowsBounded }
 {
     let Some(name) = name(alloc, text)? else {
@@ -101,7 +105,9 @@ pub(crate) fn enum_value(
     cb_data: u32,
     registry: Option<&Registry>,
 ) -> Result<Planned, AllocError>
-    ensures planned { IfOk result (λ planned. planned ≡ told (option_map (λ kept. keys_in kept.now) registry.entry) held.now input.now (λ keys. entry_told input.now cb_data (nth_value (folded_parts held.now.path) index keys))) }
+    ensures planned { IfOk result
+        (λ planned. planned ≡ told (option_map (λ kept. keys_in kept.now) registry.entry) held.now
+        input.now (λ keys. entry_told input.now cb_data (nth_value (folded_parts held.now.path) index keys))) }
     ensures bounded { IfOk result FollowsBounded }
 {
     let Some(registry) = registry else {
@@ -125,7 +131,9 @@ pub(crate) fn query_info_key(
     held: &Held,
     registry: Option<&Registry>,
 ) -> Result<Planned, AllocError>
-    ensures planned { IfOk result (λ planned. planned ≡ told (option_map (λ kept. keys_in kept.now) registry.entry) held.now input.now (λ keys. info_told input.now (info_at (folded_parts held.now.path) keys))) }
+    ensures planned { IfOk result
+        (λ planned. planned ≡ told (option_map (λ kept. keys_in kept.now) registry.entry) held.now
+        input.now (λ keys. info_told input.now (info_at (folded_parts held.now.path) keys))) }
     ensures bounded { IfOk result FollowsBounded }
 {
     let Some(registry) = registry else {
@@ -151,7 +159,9 @@ pub(crate) fn open_key(
     registry: Option<&Registry>,
 ) -> Result<Planned, AllocError>
     requires { LacksZero below.now }
-    ensures planned { IfOk result (λ planned. planned ≡ unless_refused (subkey_refusal held.now.path below.now) input.now (if_open (option_map (λ kept. keys_in kept.now) registry.entry) input.now (λ keys. opened_below held.now keys input.now (held.now.path ++ parts_of below.now)))) }
+    ensures planned { IfOk result
+        (λ planned. planned ≡ unless_refused (subkey_refusal held.now.path below.now) input.now (if_open (option_map (λ kept. keys_in kept.now) registry.entry)
+        input.now (λ keys. opened_below held.now keys input.now (held.now.path ++ parts_of below.now)))) }
     ensures bounded { IfOk result FollowsBounded }
 {
     let below = match subkey(alloc, &held.path, below)? {
@@ -185,7 +195,8 @@ pub(crate) fn cluster_names(
     node: u16,
     registry: Option<&Registry>,
 ) -> Result<Planned, AllocError>
-    ensures planned { IfOk result (λ planned. planned ≡ if_open (option_map (λ kept. keys_in kept.now) registry.entry) input.now (λ keys. Answer (names_told node keys) true)) }
+    ensures planned { IfOk result
+        (λ planned. planned ≡ if_open (option_map (λ kept. keys_in kept.now) registry.entry) input.now (λ keys. Answer (names_told node keys) true)) }
     ensures bounded { IfOk result FollowsBounded }
 {
     let Some(registry) = registry else {

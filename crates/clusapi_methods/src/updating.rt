@@ -36,7 +36,9 @@ pub(crate) fn create_key(
     registry: Option<&Registry>,
 ) -> Result<Planned, AllocError>
     requires { LacksZero below.now }
-    ensures planned { IfOk result (λ planned. planned ≡ unless_refused (or_else (subkey_refusal held.now.path below.now) (invalid_if (is_volatile options))) input.now (if_open (option_map (λ kept. keys_in kept.now) registry.entry) input.now (λ keys. Send (update.Create held.now.path held.now.birth (parts_of below.now))))) }
+    ensures planned { IfOk result (λ planned. planned ≡ unless_refused (or_else (subkey_refusal held.now.path below.now) (invalid_if (is_volatile options)))
+        input.now (if_open (option_map (λ kept. keys_in kept.now) registry.entry)
+        input.now (λ keys. Send (update.Create held.now.path held.now.birth (parts_of below.now))))) }
     ensures bounded { IfOk result FollowsBounded }
 {
     let subkey = match subkey(alloc, &held.path, below)? {
@@ -64,7 +66,9 @@ pub(crate) fn delete_key(
     registry: Option<&Registry>,
 ) -> Result<Planned, AllocError>
     requires { LacksZero below.now }
-    ensures planned { IfOk result (λ planned. planned ≡ unless_refused (or_else (subkey_refusal held.now.path below.now) (invalid_if (length below.now == 0))) input.now (if_open (option_map (λ kept. keys_in kept.now) registry.entry) input.now (λ keys. Send (update.DeleteKey held.now.path held.now.birth (parts_of below.now))))) }
+    ensures planned { IfOk result (λ planned. planned ≡ unless_refused (or_else (subkey_refusal held.now.path below.now) (invalid_if (length below.now == 0)))
+        input.now (if_open (option_map (λ kept. keys_in kept.now) registry.entry)
+        input.now (λ keys. Send (update.DeleteKey held.now.path held.now.birth (parts_of below.now))))) }
     ensures bounded { IfOk result FollowsBounded }
 {
     let subkey = match subkey(alloc, &held.path, below)? {
@@ -94,7 +98,9 @@ pub(crate) fn set_value(
     registry: Option<&Registry>,
 ) -> Result<Planned, AllocError>
     requires { LacksZero text.now }
-    ensures planned { IfOk result (λ planned. planned ≡ unless_refused (or_else (name_refusal text.now) (invalid_if (nat_lt 49152 (length bytes.now)))) input.now (if_open (option_map (λ kept. keys_in kept.now) registry.entry) input.now (λ keys. Send (update.SetValue held.now.path held.now.birth text.now kind bytes.now)))) }
+    ensures planned { IfOk result (λ planned. planned ≡ unless_refused (or_else (name_refusal text.now) (invalid_if (nat_lt 49152 (length bytes.now))))
+        input.now (if_open (option_map (λ kept. keys_in kept.now) registry.entry)
+        input.now (λ keys. Send (update.SetValue held.now.path held.now.birth text.now kind bytes.now)))) }
     ensures bounded { IfOk result FollowsBounded }
 {
     let Some(name) = name(alloc, text)? else {
@@ -123,7 +129,9 @@ pub(crate) fn delete_value(
     registry: Option<&Registry>,
 ) -> Result<Planned, AllocError>
     requires { LacksZero text.now }
-    ensures planned { IfOk result (λ planned. planned ≡ unless_refused (name_refusal text.now) input.now (if_open (option_map (λ kept. keys_in kept.now) registry.entry) input.now (λ keys. Send (update.DeleteValue held.now.path held.now.birth text.now)))) }
+    ensures planned { IfOk result (λ planned. planned ≡ unless_refused (name_refusal text.now)
+        input.now (if_open (option_map (λ kept. keys_in kept.now) registry.entry)
+        input.now (λ keys. Send (update.DeleteValue held.now.path held.now.birth text.now)))) }
     ensures bounded { IfOk result FollowsBounded }
 {
     let Some(name) = name(alloc, text)? else {

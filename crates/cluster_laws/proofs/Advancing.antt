@@ -209,10 +209,10 @@ module _ {M : Machine} where
   whole_decodes : IsMachine M → (w : World M) (n : ℕ) (x : NodeState M) (from total offset : ℕ) (bytes : List ℕ) (o : Offering) → Sound w → w.nodes n ≡ Some x → MsgOk w x.join.view from n (Piece total offset bytes) → x.join.stage ≡ stage.Pulling offset → total ≤ offset + length bytes → x.offer ≡ Some o → M.decode o.cap (x.bytes ++ bytes) ≡ Some (registry_at M w.log.cap w.log.order o.count)
   whole_decodes law w n x from total offset bytes o s at ok e le of =
       let h : NodeOk w n x = s.inv.nodes n x at in
-      let q = h.pulled offset e in
+      let q = h.prefix.pulled offset e in
       let same : Some o ≡ Some q.0 = sym of ∙ q.1 in
       let oq : o ≡ q.0 = cc in
-      let p = h.pull o of in
+      let p = h.prefix.pull o of in
       let ct : Some ok.0 ≡ Some o.count = sym ok.1 ∙ p.1 in
       let c : ok.0 ≡ o.count = cc in
       let S : List ℕ = state_bytes w o.count in
@@ -249,7 +249,7 @@ module _ {M : Machine} where
       (λ none. stays_on held x)
       (λ o some. option_cases (λ (o : Out M). Proceeds held x o.node) (M.decode o.cap (x.bytes ++ bytes)) (tells (record x { join = (joining.taken t false).0; bytes = [] }) (locker_at x) (Need 0)) (λ registry. says_ready (joined (with_replica x registry o.count) o.count o.last (joining.taken t true).0))
       (λ none. absurd (read (sym none ∙ whole_decodes law w n x from total offset bytes o s at ok e le some)))
-      (λ registry there. taken_on held x (with_replica x registry o.count) o.count o.last nr (h.unready o.count (h.pull o some).1 nr) (omega arith))))
+      (λ registry there. taken_on held x (with_replica x registry o.count) o.count o.last nr (h.prefix.unready o.count (h.prefix.pull o some).1 nr) (omega arith))))
     where
       same : (a b : ℕ) → stage.Pulling a ≡ stage.Pulling b → a ≡ b
       same a b e = cc

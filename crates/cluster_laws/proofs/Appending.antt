@@ -42,11 +42,11 @@ module _ {M : Machine} where
   owner_unique w n m x z j a b =
       let hx : NodeOk w n x = j.nodes n x a.runs in
       let hz : NodeOk w m z = j.nodes m z b.runs in
-      let vx = (hx.view (hx.ready_view a.ready)).0 in
-      let vz = (hz.view (hz.ready_view b.ready)).0 in
+      let vx = (hx.view (hx.local.ready_view a.ready)).0 in
+      let vz = (hz.view (hz.local.ready_view b.ready)).0 in
       let q : Some z.join.view ≡ Some x.join.view = sym vz ∙ ap (view_in w.chain) (b.held ∙ sym a.held) ∙ vx in
       let g : z.join.view ≡ x.join.view = cc in
-      (sym (locker_is z.join.view.members z.join.node b.locker ∙ hz.node) ∙ ap (λ (v : View). locker_of v.members) g ∙ locker_is x.join.view.members x.join.node a.locker ∙ hx.node, g)
+      (sym (locker_is z.join.view.members z.join.node b.locker ∙ hz.local.node) ∙ ap (λ (v : View). locker_of v.members) g ∙ locker_is x.join.view.members x.join.node a.locker ∙ hx.local.node, g)
 
   abbrev pub appended : World M → ℕ → NodeState M → Entry → World M
   appended w n x r = absorbed n (tells (has_logged x r) r.id.node (Granted r)) (with_log (plus w.log r x.join.view.number) w)
@@ -90,7 +90,7 @@ module _ {M : Machine} where
       record {
         ext = append_ext w n x s r at f.state;
         place = omega (arith, f.place, k.all_done, done_at x s f.state);
-        view = (h.view (h.ready_view f.owner.ready)).0;
+        view = (h.view (h.local.ready_view f.owner.ready)).0;
         told = λ a p e. slice_get_front w.acks [] a p e;
         near = λ m z zt wt id.
             let mem : inc_of x.join.view.members m ≡ z.join.inc = ap (inc_of x.join.view.members) (sym id.node) ∙ sym f.inc ∙ id.inc in
@@ -112,7 +112,7 @@ module _ {M : Machine} where
         new = record {
           none = λ a at id. absurd (⊎_elim
               (λ (c : f.count < a.place).
-              let mem : 0 < inc_of x.core.members a.id.node = subst (λ (t : ℕ). 0 < t) (f.inc ∙ ap (inc_of x.join.view.members) (sym id.node) ∙ ap (λ (ms : List Member). inc_of ms a.id.node) (sym h.core_members)) f.member in
+              let mem : 0 < inc_of x.core.members a.id.node = subst (λ (t : ℕ). 0 < t) (f.inc ∙ ap (inc_of x.join.view.members) (sym id.node) ∙ ap (λ (ms : List Member). inc_of ms a.id.node) (sym h.local.core_members)) f.member in
               let g : a.id.req ≤ greatest_of x.core a.id.node = k.greatest a f.count f.counted (record { at = at }) c mem in
               omega (arith, g, ap (greatest_of x.core) id.node, id.req, f.next))
               (λ (c : a.place ≤ f.count). omega (arith, f.new.none a at id))
@@ -143,21 +143,35 @@ module _ {M : Machine} where
       let here2 : at_place w'.log.order (done_of y) ≡ Some r = ap (at_place w'.log.order) d' ∙ here in
       let rd : joining.is_ready x.join ≡ true = f.owner.ready in
       record {
-        node = g.node;
+        local = record {
+          node = g.local.node;
+          positive = g.local.positive;
+          core_node = g.local.core_node;
+          core_members = g.local.core_members;
+          core_open = g.local.core_open;
+          peopled = g.local.peopled;
+          ready_view = g.local.ready_view;
+          idle = g.local.idle;
+          unsettled = g.local.unsettled;
+          entries = length-set x.core.greatest (index_of x.core.members r.id.node) r.id.req ∙ h.local.entries;
+          full_state = λ q. state_next x r s f.state;
+          pulling = λ o e. absurd (locker_not (joining.is_ready x.join) rd (h.prefix.pull o e).0);
+        };
+        prefix = record {
+          pull = g.prefix.pull;
+          pulled = g.prefix.pulled;
+          within = omega (arith, d', len, k.all_done, d);
+          registry = next_registry w' n x r s g f.state here;
+          last = next_last w' x r s f.state here;
+          ready_state = λ c. let t = h.prefix.ready_state c in (state_next x r s f.state, t.1, t.2, omega (arith, t.3, d, d'));
+          below = λ v c i b. absurd (omega (arith, b, f.owner.held, (j.log.counts v c i).1));
+          unready = λ c i b. absurd (locker_not (joining.is_ready x.join) rd b);
+          closed = λ a b c. absurd (locker_not (joining.is_open x.join) f.open_ c);
+        };
         inc = g.inc;
-        positive = g.positive;
-        core_node = g.core_node;
-        core_members = g.core_members;
-        core_open = g.core_open;
         view = g.view;
-        peopled = g.peopled;
-        ready_view = g.ready_view;
-        pull = g.pull;
-        pulled = g.pulled;
         marked = g.marked;
         all_ready = g.all_ready;
-        idle = g.idle;
-        unsettled = g.unsettled;
         spreading = g.spreading;
         waiting = g.waiting;
         waiting_doubt = g.waiting_doubt;
@@ -165,14 +179,6 @@ module _ {M : Machine} where
         queued = g.queued;
         all_requests = g.all_requests;
         finished = g.finished;
-        entries = length-set x.core.greatest (index_of x.core.members r.id.node) r.id.req ∙ h.entries;
-        within = omega (arith, d', len, k.all_done, d);
-        registry = next_registry w' n x r s g f.state here;
-        last = next_last w' x r s f.state here;
-        ready_state = λ c. let t = h.ready_state c in (state_next x r s f.state, t.1, t.2, omega (arith, t.3, d, d'));
-        below = λ v c i b. absurd (omega (arith, b, f.owner.held, (j.log.counts v c i).1));
-        unready = λ c i b. absurd (locker_not (joining.is_ready x.join) rd b);
-        closed = λ a b c. absurd (locker_not (joining.is_open x.join) f.open_ c);
         lock = λ l e.
             let q : record { node = r.id.node; req = r.id.req; place = r.place } ≡ l = cc in
             subst (λ (l : Lock). (joining.is_open x.join ≡ true) × (joining.locks x.join ≡ true) × (a : Entry) × (at_place w'.log.order (done_of y) ≡ Some a) × LoggedIn w'.log a x.join.view.number × (a.id.node ≡ l.node) × (a.id.inc ≡ inc_of x.join.view.members l.node) × (a.id.req ≡ l.req) × (a.place ≡ l.place)) q
@@ -180,8 +186,6 @@ module _ {M : Machine} where
         settled = λ p e. let t = g.settled p e in (t.0, t.1, t.2, t.3, omega (arith, t.4, d, d'), t.5);
         near_head = λ a wt sa id. omega (arith, g.near_head a wt sa id, d, d');
         near_doubt = λ a wt mb id. absurd (cc);
-        full_state = λ q. state_next x r s f.state;
-        pulling = λ o e. absurd (locker_not (joining.is_ready x.join) rd (h.pull o e).0);
         outcome = λ a q sa id le. next_outcome w' n x r s a g lo'.ids (record { at = ap (at_place w'.log.order) f.place ∙ here }) f.state f.place q sa id (omega (arith, le, d'));
       }
 
@@ -210,8 +214,8 @@ module _ {M : Machine} where
       let d : done_of x ≡ s.done = done_at x s f.state in
       let d' : done_of y ≡ s.done + 1 = done_next x r s f.state in
       let len : length w'.log.order ≡ length w.log.order + 1 = length_snoc w.log.order r in
-      let mem : 0 < inc_of x.core.members r.id.node = subst (λ (t : ℕ). 0 < t) (f.inc ∙ ap (λ (ms : List Member). inc_of ms r.id.node) (sym h.core_members)) f.member in
-      let new_ : greatest_of y.core r.id.node ≡ r.id.req = greatest_logged x.core r.id.node r.id.req r.place h.entries mem in
+      let mem : 0 < inc_of x.core.members r.id.node = subst (λ (t : ℕ). 0 < t) (f.inc ∙ ap (λ (ms : List Member). inc_of ms r.id.node) (sym h.local.core_members)) f.member in
+      let new_ : greatest_of y.core r.id.node ≡ r.id.req = greatest_logged x.core r.id.node r.id.req r.place h.local.entries mem in
       record {
         sure = refl;
         all_done = omega (arith, d, d', len, k.all_done);
@@ -256,8 +260,8 @@ module _ {M : Machine} where
         pool = λ i p t. ⊎_elim
             (λ (c : slice_get w.pool i ≡ Some p). pooled w w' p e ao (λ v c f. (j.log.counts v c f).0) (j.pool i p c))
             (λ (c : (a : ℕ) × (slice_get (packet y r.id.node (Granted r) ∷ []) a ≡ Some p)).
-            let nz : x.join.view.number ≢ 0 = h.ready_view f.owner.ready in
-            let me : locker_of x.join.view.members ≡ n = locker_is x.join.view.members x.join.node f.owner.locker ∙ h.node in
+            let nz : x.join.view.number ≢ 0 = h.local.ready_view f.owner.ready in
+            let me : locker_of x.join.view.members ≡ n = locker_is x.join.view.members x.join.node f.owner.locker ∙ h.local.node in
             let d' : done_of y ≡ s.done + 1 = done_next x r s f.state in
             let le : r.place ≤ done_of y = omega (arith, f.place, d') in
             let here : at_place w'.log.order r.place ≡ Some r = ap (at_place w'.log.order) gs.place ∙ place_new w.log.order r in

@@ -116,7 +116,7 @@ module _ {M : Machine} where
   next_registry w n x r s h st here t e =
       let q : Some (next_replica r s) ≡ Some t = sym (replica_next x r s st) ∙ e in
       let eq : next_replica r s ≡ t = cc in
-      subst (λ (u : Replica M). u.registry ≡ registry_at M w.log.cap w.log.order u.done) eq (ap (λ (g : M.Registry). (M.apply r g).0) (h.registry s st) ∙ sym (fold_next M w.log.cap w.log.order s.done r here))
+      subst (λ (u : Replica M). u.registry ≡ registry_at M w.log.cap w.log.order u.done) eq (ap (λ (g : M.Registry). (M.apply r g).0) (h.prefix.registry s st) ∙ sym (fold_next M w.log.cap w.log.order s.done r here))
 
   pub next_last : (w : World M) (x : NodeState M) (r : Entry) (s : Replica M) → x.replica ≡ Some s → at_place w.log.order (s.done + 1) ≡ Some r → (t : Replica M) → replica_after r x.replica ≡ Some t → ◌≡◌ {A = Option Entry} (Some r) (at_place w.log.order t.done)
   next_last w x r s st here t e =
@@ -135,8 +135,8 @@ module _ {M : Machine} where
       let ap1 : a.place ≡ s.done + 1 = omega arith in
       let q : Some a ≡ Some r = sym sa.at ∙ ap (at_place w.log.order) (ap1 ∙ sym pl) ∙ sr.at in
       let ar : a ≡ r = cc in
-      let hd : is_head r x ≡ true = subst (λ (t : Entry). is_head t x ≡ true) ar (has_is_head a x (record { node = id.node ∙ sym h.node; inc = id.inc; req = id.req }) f) in
-      let fo : s.registry ≡ registry_at M w.log.cap w.log.order (a.place - 1) = h.registry s st ∙ ap (registry_at M w.log.cap w.log.order) (omega arith) in
+      let hd : is_head r x ≡ true = subst (λ (t : Entry). is_head t x ≡ true) ar (has_is_head a x (record { node = id.node ∙ sym h.local.node; inc = id.inc; req = id.req }) f) in
+      let fo : s.registry ≡ registry_at M w.log.cap w.log.order (a.place - 1) = h.prefix.registry s st ∙ ap (registry_at M w.log.cap w.log.order) (omega arith) in
       let out : outcome_after r x.replica ≡ Some (M.apply r s.registry).1 = rw st refl in
       subst F (λ i. if sym hd i then outcome_after r x.replica else x.outcome) (out ∙ (λ i. Some (M.apply (sym ar i) (fo i)).1)))
       (λ (c : a.place ≤ s.done).
@@ -144,7 +144,7 @@ module _ {M : Machine} where
       if_cases F (is_head r x) (outcome_after r x.replica) x.outcome
       (λ b.
       let i2 = (is_head_has r x b).0 in
-      absurd (omega (arith, c, pl, ids a r sa sr (id.node ∙ sym (i2.node ∙ h.node)) (id.inc ∙ sym i2.inc) (id.req ∙ sym i2.req))))
+      absurd (omega (arith, c, pl, ids a r sa sr (id.node ∙ sym (i2.node ∙ h.local.node)) (id.inc ∙ sym i2.inc) (id.req ∙ sym i2.req))))
       (λ b. old))
       (cases_lt s.done a.place)
 
@@ -158,22 +158,35 @@ module _ {M : Machine} where
       let here : at_place w.log.order (s.done + 1) ≡ Some r = subst (λ (k : ℕ). at_place w.log.order k ≡ Some r) pl lg.at in
       let within : s.done + 1 ≤ length w.log.order = (place_within w.log.order (s.done + 1) r here).1 in
       record {
-        node = h.node;
+        local = record {
+          node = h.local.node;
+          positive = h.local.positive;
+          core_node = h.local.core_node;
+          core_members = h.local.core_members;
+          core_open = h.local.core_open;
+          entries = h.local.entries;
+          peopled = h.local.peopled;
+          ready_view = h.local.ready_view;
+          idle = h.local.idle;
+          unsettled = h.local.unsettled;
+          full_state = λ f. state_next x r s st;
+          pulling = λ o e. absurd (locker_not (joining.is_ready x.join) rd (h.prefix.pull o e).0);
+        };
+        prefix = record {
+          pull = h.prefix.pull;
+          pulled = h.prefix.pulled;
+          within = omega (arith, d', within);
+          registry = next_registry w n x r s h st here;
+          last = next_last w x r s st here;
+          ready_state = λ c. let k = h.prefix.ready_state c in (state_next x r s st, k.1, k.2, omega (arith, k.3, d, d'));
+          below = λ v c i b. omega (arith, d', j.log.bounds v c r i (record { at = lg.at }) (omega (arith, lg.view)));
+          unready = λ c i f. absurd (locker_not (joining.is_ready x.join) rd f);
+          closed = λ a b c. absurd (locker_not (joining.locks x.join) b nl);
+        };
         inc = h.inc;
-        positive = h.positive;
-        core_node = h.core_node;
-        core_members = h.core_members;
-        core_open = h.core_open;
-        entries = h.entries;
         view = h.view;
-        peopled = h.peopled;
-        ready_view = h.ready_view;
-        pull = h.pull;
-        pulled = h.pulled;
         marked = h.marked;
         all_ready = h.all_ready;
-        idle = h.idle;
-        unsettled = h.unsettled;
         spreading = h.spreading;
         waiting = h.waiting;
         waiting_doubt = h.waiting_doubt;
@@ -181,19 +194,10 @@ module _ {M : Machine} where
         queued = h.queued;
         all_requests = h.all_requests;
         finished = h.finished;
-        within = omega (arith, d', within);
-        registry = next_registry w n x r s h st here;
-        last = next_last w x r s st here;
-        ready_state = λ c. let k = h.ready_state c in (state_next x r s st, k.1, k.2, omega (arith, k.3, d, d'));
-        below = λ v c i b. omega (arith, d', j.log.bounds v c r i (record { at = lg.at }) (omega (arith, lg.view)));
-        unready = λ c i f. absurd (locker_not (joining.is_ready x.join) rd f);
-        closed = λ a b c. absurd (locker_not (joining.locks x.join) b nl);
         lock = λ l e. absurd (locker_not (joining.locks x.join) (h.lock l e).1 nl);
         settled = λ k e. let t = h.settled k e in (t.0, t.1, t.2, t.3, omega (arith, t.4, d, d'), t.5);
         near_head = λ t wt sr id. omega (arith, h.near_head t wt sr id, d, d');
         near_doubt = λ t wt mb id. omega (arith, h.near_doubt t wt mb id, d, d');
-        full_state = λ f. state_next x r s st;
-        pulling = λ o e. absurd (locker_not (joining.is_ready x.join) rd (h.pull o e).0);
         outcome = λ a f sa id le. next_outcome w n x r s a h j.log.ids (record { at = lg.at }) st pl f sa id (omega (arith, le, d'));
       }
 
@@ -209,9 +213,9 @@ module _ {M : Machine} where
       let g1 = and_true (joining.is_ready x.join) (not (joining.locks x.join)) g in
       let rd : joining.is_ready x.join ≡ true = g1.0 in
       let nl : joining.locks x.join ≡ false = not_true (joining.locks x.join) g1.1 in
-      let st = state_of x (h.ready_state rd).0 in
+      let st = state_of x (h.prefix.ready_state rd).0 in
       let d : done_of x ≡ st.0.done = done_at x st.0 st.1 in
-      let nz : x.join.view.number ≢ 0 = h.ready_view rd in
+      let nz : x.join.view.number ≢ 0 = h.local.ready_view rd in
       let here = h.view nz in
       let tells_ : (y : NodeState M) → y.join.view ≡ x.join.view → y.join.node ≡ x.join.node → r.place ≤ done_of y → Pooled (moved w n y (Send (packet y from (Applied r.place)) ∷ [])) (packet y from (Applied r.place)) =
       λ y vw nd dn. told w n x y (Send (packet y from (Applied r.place)) ∷ []) from (Applied r.place) h nz vw nd (reached_self w n y (Send (packet y from (Applied r.place)) ∷ []) (inc_of x.join.view.members n) r.place (omega (arith, h.inc, here.1)) dn) in

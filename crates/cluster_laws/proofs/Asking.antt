@@ -35,7 +35,7 @@ appended_log l r v e = λ i. record l { order = l.order ++ r ∷ []; view_at = p
 module _ {M : Machine} where
   -- the core's locker is the view's
   pub core_locks : (w : World M) (n : ℕ) (x : NodeState M) → NodeOk w n x → updating.locks x.core ≡ joining.locks x.join
-  core_locks w n x h = λ i. is_locker (h.core_members i) ((h.core_node ∙ sym h.node) i)
+  core_locks w n x h = λ i. is_locker (h.local.core_members i) ((h.local.core_node ∙ sym h.local.node) i)
 
   -- an open locker that isn't fenced, and a request that it hasn't logged
   pub ask_fresh : (w : World M) (n : ℕ) (x : NodeState M) (from q : ℕ) (u : Update) → Invariant w → w.nodes n ≡ Some x → joining.is_open x.join ≡ true → joining.locks x.join ≡ true → x.core.lock ≡ None → greatest_of x.core from < q → w.log.held ≤ x.join.view.number → 0 < inc_of x.join.view.members from → MsgOk w x.join.view from n (Ask q u)
@@ -43,7 +43,7 @@ module _ {M : Machine} where
   ask_fresh w n x from q u j at op lk free next held pos ok =
       let h : NodeOk w n x = j.nodes n x at in
       let rd : joining.is_ready x.join ≡ true = open_is_ready x.join op in
-      let st = h.ready_state rd in
+      let st = h.prefix.ready_state rd in
       let s = state_of x st.0 in
       let c = j.log.counts x.join.view.number st.1 st.2 in (
         s.0,
@@ -70,13 +70,13 @@ module _ {M : Machine} where
       let h : NodeOk w n x = j.nodes n x at in
       let t = h.lock l lk in
       let rd : joining.is_ready x.join ≡ true = open_is_ready x.join t.0 in
-      let s = state_of x (h.ready_state rd).0 in
-      let q : Some t.2 ≡ Some e = sym t.3 ∙ ap (at_place w.log.order) (done_at x s.0 s.1) ∙ sym (h.last s.0 s.1) ∙ la in
+      let s = state_of x (h.prefix.ready_state rd).0 in
+      let q : Some t.2 ≡ Some e = sym t.3 ∙ ap (at_place w.log.order) (done_at x s.0 s.1) ∙ sym (h.prefix.last s.0 s.1) ∙ la in
       let same : t.2 ≡ e = cc in
       let pl : t.2.place ≡ done_of x = j.log.places (done_of x) t.2 t.3 in
-      let me : locker_of x.join.view.members ≡ n = locker_is x.join.view.members x.join.node t.1 ∙ h.node in
-      let rc : Reached (moved w n x es) n (inc_of x.join.view.members n) t.2.place = reached_self w n x es (inc_of x.join.view.members n) t.2.place (omega (arith, h.inc, (h.view (h.ready_view rd)).1)) (omega (arith, pl)) in
-      told w n x x es l.node (Granted e) h (h.ready_view rd) refl refl (subst (λ (e : Entry). MsgOk (moved w n x es) x.join.view n l.node (Granted e)) same
+      let me : locker_of x.join.view.members ≡ n = locker_is x.join.view.members x.join.node t.1 ∙ h.local.node in
+      let rc : Reached (moved w n x es) n (inc_of x.join.view.members n) t.2.place = reached_self w n x es (inc_of x.join.view.members n) t.2.place (omega (arith, h.inc, (h.view (h.local.ready_view rd)).1)) (omega (arith, pl)) in
+      told w n x x es l.node (Granted e) h (h.local.ready_view rd) refl refl (subst (λ (e : Entry). MsgOk (moved w n x es) x.join.view n l.node (Granted e)) same
       (record { at = t.4.at; view = t.4.view }, t.5, t.6, subst (λ (k : ℕ). Reached (moved w n x es) k (inc_of x.join.view.members k) t.2.place) (sym me) rc))
 
   abbrev pub Keeps : World M → ℕ → NodeState M → Logged M → Type 0
@@ -111,7 +111,7 @@ module _ {M : Machine} where
       (λ op lk free next low. if_cases (λ (d : Logged M). Keeps w n x d) (nat_lt (number_of x) w.log.held) _ _
       (λ g. halt_keeps w n (stop_keeps w n j))
       (λ g.
-      let f = ask_fresh w n x from q u j at (sym h.core_open ∙ op) (sym (core_locks w n x h) ∙ lk) free next (lt_false x.join.view.number w.log.held g) pos ok in
+      let f = ask_fresh w n x from q u j at (sym h.local.core_open ∙ op) (sym (core_locks w n x h) ∙ lk) free next (lt_false x.join.view.number w.log.held g) pos ok in
       answer_keeps w n x f.0 (entry_for x from q u) answer j f.1))
       (λ op lk l held ln lq. option_cases (λ (o : Out M). Keeps w n x (unlogged o)) x.last (nothing x) (λ e. tells x from (Granted e))
       (λ none. stay_keeps w n x j at)
@@ -126,6 +126,6 @@ module _ {M : Machine} where
       (λ op lk free next low. if_cases (λ (d : Logged M). Dies w n x d) (nat_lt (number_of x) w.log.held) _ _
       (λ g. stop_keeps w n j)
       (λ g.
-      let f = ask_fresh w n x from q u j at (sym h.core_open ∙ op) (sym (core_locks w n x h) ∙ lk) free next (lt_false x.join.view.number w.log.held g) pos ok in
+      let f = ask_fresh w n x from q u j at (sym h.local.core_open ∙ op) (sym (core_locks w n x h) ∙ lk) free next (lt_false x.join.view.number w.log.held g) pos ok in
       answer_dies w n x f.0 (entry_for x from q u) answer j f.1))
       (λ op lk l held ln lq. stop_keeps w n j)

@@ -163,16 +163,16 @@ module _ {M : Machine} where
       asked_cases (λ (d : Decision). Left w.log (number_of x) (answers x u w.log.held answer d)) x.core from q (done_of x)
       (stays_as w.log x k)
       (λ op lk c d e. if_cases (λ (d : Logged M). Left w.log (number_of x) d) (nat_lt (number_of x) w.log.held) _ _ (λ f. stays_halts w.log) (λ f.
-      let jo : joining.is_open x.join ≡ true = sym h.core_open ∙ op in
+      let jo : joining.is_open x.join ≡ true = sym h.local.core_open ∙ op in
       let rd : joining.is_ready x.join ≡ true = open_is_ready x.join jo in
-      let rs = h.ready_state rd in
+      let rs = h.prefix.ready_state rd in
       let ct = j.log.counts x.join.view.number rs.1 rs.2 in
       let le : x.join.view.number ≤ w.log.held = ct.1 in
       let eq : x.join.view.number ≡ w.log.held = both x.join.view.number w.log.held le f in
-      let lks : joining.locks x.join ≡ true = ap (λ (ms : List Member). is_locker ms x.join.node) (sym h.core_members) ∙ ap (λ (a : ℕ). is_locker x.core.members a) (h.node ∙ sym h.core_node) ∙ lk in
+      let lks : joining.locks x.join ≡ true = ap (λ (ms : List Member). is_locker ms x.join.node) (sym h.local.core_members) ∙ ap (λ (a : ℕ). is_locker x.core.members a) (h.local.node ∙ sym h.local.core_node) ∙ lk in
       let ow : OwnerOk w n x = j.owner n x (record { runs = at; ready = rd; locker = lks; held = eq }) in
       let r : Entry = entry_for x from q u in
-      answered answer (new_core w.log r (number_of x) x.core from q r.place k.0 (ap (λ (b : ℕ). b + 1) ow.all_done) h.entries (record { node = refl; inc = ap (λ (ms : List Member). inc_of ms from) (sym h.core_members); req = refl }) (subst (λ (ms : List Member). 0 < inc_of ms from) (sym h.core_members) pos))))
+      answered answer (new_core w.log r (number_of x) x.core from q r.place k.0 (ap (λ (b : ℕ). b + 1) ow.all_done) h.local.entries (record { node = refl; inc = ap (λ (ms : List Member). inc_of ms from) (sym h.local.core_members); req = refl }) (subst (λ (ms : List Member). 0 < inc_of ms from) (sym h.local.core_members) pos))))
       (λ a b l c d e. option_cases (λ (o : Out M). Stays w.log o) x.last (nothing x) (λ t. tells x from (Granted t)) (λ none. stays_as w.log x k) (λ t some. stays_as w.log x k))
     where
       both : (a b : ℕ) → a ≤ b → nat_lt a b ≡ false → a ≡ b

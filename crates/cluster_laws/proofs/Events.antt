@@ -26,7 +26,7 @@ module _ {M : Machine} where
       let a = and_true (nat_eq p.view (number_of x)) (nat_lt 0 (inc_of (members_of x) p.from)) g in
       let num : p.view ≡ x.join.view.number = eq_true p.view x.join.view.number a.0 in
       let pos : 0 < inc_of x.join.view.members p.from = lt_true 0 (inc_of x.join.view.members p.from) a.1 in
-      let nz : x.join.view.number ≢ 0 = h.peopled p.from pos in
+      let nz : x.join.view.number ≢ 0 = h.local.peopled p.from pos in
       let q : Some po.view ≡ Some x.join.view = sym po.declared ∙ ap (view_in w.chain) num ∙ (h.view nz).0 in
       let same : po.view ≡ x.join.view = cc in
       let ok : MsgOk w x.join.view p.from p.to p.body = subst (λ (v : View). MsgOk w v p.from p.to p.body) same po.ok in

@@ -54,7 +54,7 @@ module _ {M : Machine} where
       let h : NodeOk w n x = j.nodes n x at in
       record {
         view = x.join.view;
-        declared = (h.view (h.ready_view d.ready)).0;
+        declared = (h.view (h.local.ready_view d.ready)).0;
         place = (place_within w.log.order r.place r d.stands.at).1;
         later = d.later;
         members = all_reached w (moved w n y es) x.join.view.members r.place (ext_absorb w n x y es at g) d.members;
@@ -72,15 +72,15 @@ module _ {M : Machine} where
   done_here : (w : World M) (n : ℕ) (x : NodeState M) (r : Entry) → Invariant w → w.nodes n ≡ Some x → Done w n x r → r.place ≤ done_of x
   done_here w n x r j at d =
       let h : NodeOk w n x = j.nodes n x at in
-      (d.members.each n x.join.inc (h.view (h.ready_view d.ready)).1 h.positive).done x at refl
+      (d.members.each n x.join.inc (h.view (h.local.ready_view d.ready)).1 h.local.positive).done x at refl
 
   -- a ready node whose waiting head has its record in the order hasn't gone past it
   pub not_past : (w : World M) (n : ℕ) (x : NodeState M) (r : Entry) → Invariant w → w.nodes n ≡ Some x → joining.is_ready x.join ≡ true → waits x → Stands w.log r → Has r n x.join.inc (at_head x) → done_of x ≤ r.place
   not_past w n x r j at rd wt st id = ⊎_elim
       (λ (c : r.place < done_of x). absurd (
       let h : NodeOk w n x = j.nodes n x at in
-      let d = h.view (h.ready_view rd) in
-      let within : done_of x ≤ length w.log.order = h.within in
+      let d = h.view (h.local.ready_view rd) in
+      let within : done_of x ≤ length w.log.order = h.prefix.within in
       let e = place_some w.log.order (r.place + 1) (omega arith) (omega arith) in
       let pl : e.0.place ≡ r.place + 1 = j.log.places (r.place + 1) e.0 e.1 in
       let se : Stands w.log e.0 = record { at = ap (at_place w.log.order) pl ∙ e.1 } in
@@ -90,13 +90,13 @@ module _ {M : Machine} where
       let v : w.log.view_at e.0.place ≤ x.join.view.number = ⊎_elim
       (λ (b : x.join.view.number < w.log.view_at e.0.place).
       let rc = j.log.recovered e.0 se in
-      let le : done_of x ≤ rc.0 = h.below (w.log.view_at e.0.place) rc.0 rc.1 b in
+      let le : done_of x ≤ rc.0 = h.prefix.below (w.log.view_at e.0.place) rc.0 rc.1 b in
       let lt : w.log.view_at e.0.place < w.log.view_at e.0.place = j.log.early (w.log.view_at e.0.place) rc.0 e.0 rc.1 se (omega arith) in
       absurd (omega arith))
       (λ (b : w.log.view_at e.0.place ≤ x.join.view.number). b)
       (cases_lt x.join.view.number (w.log.view_at e.0.place)) in
       h.waiting r e.0 ls.0 wt st id se (omega arith) ls.1
-      (j.chain.chain.unbroken (w.log.view_at r.place) (w.log.view_at e.0.place) x.join.view.number lr.0 ls.0 x.join.view n x.join.inc lr.1 ls.1 d.0 o v h.positive
+      (j.chain.chain.unbroken (w.log.view_at r.place) (w.log.view_at e.0.place) x.join.view.number lr.0 ls.0 x.join.view n x.join.inc lr.1 ls.1 d.0 o v h.local.positive
       (ap (inc_of lr.0.members) (sym id.node) ∙ sym lr.2 ∙ id.inc) d.1)))
       (λ (c : done_of x ≤ r.place). c)
       (cases_lt r.place (done_of x))
@@ -142,7 +142,7 @@ module _ {M : Machine} where
         idle = λ e. (refl, refl);
         settled = λ k e. absurd (cc);
         unsettled = λ e. refl;
-        full_state = λ f. (j.nodes n x at).full_state d.full;
+        full_state = λ f. (j.nodes n x at).local.full_state d.full;
         queued = λ k u e. subst (λ (q : ℕ). Requested w n x.join.inc q u) (omega arith) ((j.nodes n x at).queued (k + 1) u (drop_one x.core.queue k u e));
         all_requests = rest_length x.core.passed x.core.queue d.full;
         outcome = λ s f st id. absurd (not_asked w n x s (at_head (popped x)) j at st id (omega (arith, fa)));
@@ -170,10 +170,10 @@ module _ {M : Machine} where
       let h : NodeOk w n x = j.nodes n x at in
       let next : Option ℕ = if nat_lt 1 (length x.core.queue) then Some (x.core.passed + 2) else None in
       let es : List Effect = Acked x.join.view.number r.place ∷ Send (packet x (locker_at x) (Release (x.core.passed + 1))) ∷ asks (popped x) next in
-      let here : inc_of x.join.view.members n ≡ x.join.inc = (h.view (h.ready_view d.ready)).1 in
+      let here : inc_of x.join.view.members n ≡ x.join.inc = (h.view (h.local.ready_view d.ready)).1 in
       let P : Sent → Type 0 = λ p. Pooled (moved w n (popped x) es) p in
       let ex : Ext w (moved w n (popped x) es) = ext_absorb w n x (popped x) es at (popped_grown x d.full) in
-      let rel : P (packet x (locker_at x) (Release (x.core.passed + 1))) = told w n x (popped x) es (locker_at x) (Release (x.core.passed + 1)) h (h.ready_view d.ready) refl refl (
+      let rel : P (packet x (locker_at x) (Release (x.core.passed + 1))) = told w n x (popped x) es (locker_at x) (Release (x.core.passed + 1)) h (h.local.ready_view d.ready) refl refl (
         record { started = omega (arith, h.inc, here); passed = λ z e same. self_node w n (popped x) es (λ (t : NodeState M). x.core.passed + 1 ≤ t.core.passed) (omega arith) z e },
         r,
         record { at = d.stands.at },

@@ -82,32 +82,23 @@ module _ {M : Machine} where
       let within : length w.log.order ≤ length w'.log.order = lg.within in
       let len : length w'.log.order ≡ length w.log.order + 1 = length_snoc w.log.order r in
       record {
-        node = h.node;
+        local = h.local;
+        prefix = record {
+          ready_state = h.prefix.ready_state;
+          below = h.prefix.below;
+          unready = h.prefix.unready;
+          closed = h.prefix.closed;
+          within = omega (arith, h.prefix.within, within);
+          registry = λ s f. h.prefix.registry s f ∙ sym (lg.fold s.done (omega (arith, h.prefix.within, done_at z s f)));
+          last = λ s f. h.prefix.last s f ∙ sym (lg.order s.done (omega (arith, h.prefix.within, done_at z s f)));
+          pull = λ o f. let p = h.prefix.pull o f in (p.0, p.1, p.2, p.3 ∙ sym (lg.order o.count ((lo.counts z.join.view.number o.count p.1).0)), p.4);
+          pulled = λ g f. let p = h.prefix.pulled g f in (p.0, p.1, p.2 ∙ ap (take g) (bytes_stay w w' p.0.count e ((lo.counts z.join.view.number p.0.count ((h.prefix.pull p.0 p.1).1)).0)));
+        };
         inc = h.inc;
-        positive = h.positive;
-        core_node = h.core_node;
-        core_members = h.core_members;
-        core_open = h.core_open;
-        entries = h.entries;
         view = h.view;
-        peopled = h.peopled;
-        ready_view = h.ready_view;
-        ready_state = h.ready_state;
-        below = h.below;
-        unready = h.unready;
-        closed = h.closed;
-        idle = h.idle;
-        unsettled = h.unsettled;
-        full_state = h.full_state;
-        pulling = h.pulling;
         queued = h.queued;
         all_requests = h.all_requests;
-        within = omega (arith, h.within, within);
-        registry = λ s f. h.registry s f ∙ sym (lg.fold s.done (omega (arith, h.within, done_at z s f)));
-        last = λ s f. h.last s f ∙ sym (lg.order s.done (omega (arith, h.within, done_at z s f)));
-        pull = λ o f. let p = h.pull o f in (p.0, p.1, p.2, p.3 ∙ sym (lg.order o.count ((lo.counts z.join.view.number o.count p.1).0)), p.4);
-        pulled = λ g f. let p = h.pulled g f in (p.0, p.1, p.2 ∙ ap (take g) (bytes_stay w w' p.0.count e ((lo.counts z.join.view.number p.0.count ((h.pull p.0 p.1).1)).0)));
-        lock = λ l f. let t = h.lock l f in (t.0, t.1, t.2, lg.order (done_of z) h.within ∙ t.3, logged_in w.log w'.log t.2 z.join.view.number lg t.4, t.5, t.6, t.7, t.8);
+        lock = λ l f. let t = h.lock l f in (t.0, t.1, t.2, lg.order (done_of z) h.prefix.within ∙ t.3, logged_in w.log w'.log t.2 z.join.view.number lg t.4, t.5, t.6, t.7, t.8);
         marked = λ b c p. was_ready w w' b (inc_of z.join.view.members b) z.join.view.number e ao (h.marked b c p);
         all_ready = λ c b p. was_ready w w' b (inc_of z.join.view.members b) z.join.view.number e ao (h.all_ready c b p);
         settled = λ k f. let t = h.settled k f in (t.0, stands w.log w'.log t.0 lg t.1, t.2, t.3, t.4, t.5);
@@ -135,7 +126,7 @@ module _ {M : Machine} where
         near_doubt = λ a wt mb id. absurd (cc);
         outcome = λ a f sa id le. ⊎_elim
             (λ (d : Stands w.log a × (a.place ≤ length w.log.order)). h.outcome a f d.0 id le ∙ ap (λ (g : M.Registry). Some (M.apply a g).1) (sym (lg.fold (a.place - 1) (omega (arith, d.1)))))
-            (λ (d : (a ≡ r) × (a.place ≡ length w.log.order + 1)). absurd (omega (arith, d.1, h.within, le)))
+            (λ (d : (a ≡ r) × (a.place ≡ length w.log.order + 1)). absurd (omega (arith, d.1, h.prefix.within, le)))
             (fresh_or_old w.log r a v.number gs.place sa);
         finished = λ q p b. let f = h.finished q p b in
             (f.0, f.1, f.2, stands w.log w'.log f.0 lg f.3, f.4, gs.told f.1 (f.2, f.0.place) f.5, f.6);

@@ -88,7 +88,7 @@ module _ {M : Machine} where
   pub open_reached : (w : World M) (n : ℕ) (x : NodeState M) (a v k : ℕ) → Invariant w → w.nodes n ≡ Some x → joining.is_open x.join ≡ true → joining.is_ready x.join ≡ true → slice_get w.acks a ≡ Some (v, k) → v ≤ x.join.view.number → AllReached w x.join.view.members k
   open_reached w n x a v k j at op rd e le =
       let h : NodeOk w n x = j.nodes n x at in
-      let d = h.view (h.ready_view rd) in
+      let d = h.view (h.local.ready_view rd) in
       let k_ok : AckOk w v k = j.acks a v k e in
       ⊎_elim
       (λ (b : v < x.join.view.number). record {
@@ -108,7 +108,7 @@ module _ {M : Machine} where
   pub spread_done : (w : World M) (n : ℕ) (x : NodeState M) (r : Entry) (p : ℕ) → Invariant w → w.nodes n ≡ Some x → x.core.queue ≢ [] → Has r n x.join.inc (at_head x) → SpreadOk w n x r p → length (spread_of x.core.members) ≤ p → Done w n x r
   spread_done w n x r p j at f id s le =
       let h : NodeOk w n x = j.nodes n x at in
-      let le2 : length (spread_of x.join.view.members) ≤ p = subst (λ (ms : List Member). length (spread_of ms) ≤ p) h.core_members le in
+      let le2 : length (spread_of x.join.view.members) ≤ p = subst (λ (ms : List Member). length (spread_of ms) ≤ p) h.local.core_members le in
       record {
         ready = open_is_ready x.join s.0;
         full = f;
@@ -138,14 +138,14 @@ module _ {M : Machine} where
           new_doubt = λ a wt st i. (wt, refl);
           idle = λ e. absurd (f e);
           settled = h.settled;
-          unsettled = h.unsettled;
-          full_state = λ f. h.full_state f;
+          unsettled = h.local.unsettled;
+          full_state = λ f. h.local.full_state f;
           queued = h.queued;
           all_requests = refl;
           outcome = h.outcome;
           spreading = λ t e. let q : sp ≡ t = cc in subst (λ (t : Spreading). (a : Entry) × (Some r ≡ Some a) × (a.place ≡ t.place) × Has a n x.join.inc (at_head x) × SpreadOk w n x a t.at) q (r, refl, refl, id, s);
           finished = λ q lt le. absurd (omega arith);
-          messages = one_told (λ (q : Sent). Pooled (moved w n y es) q) (packet y to (Apply r)) (told w n x y es to (Apply r) h (h.ready_view (open_is_ready x.join s.0)) refl refl (record { at = s.1.at; view = s.1.view }));
+          messages = one_told (λ (q : Sent). Pooled (moved w n y es) q) (packet y to (Apply r)) (told w n x y es to (Apply r) h (h.local.ready_view (open_is_ready x.join s.0)) refl refl (record { at = s.1.at; view = s.1.view }));
           acks = none_acked (λ (a b : ℕ). AckOk (moved w n y es) a b);
         }),
         inl (still y es refl),
@@ -157,9 +157,9 @@ module _ {M : Machine} where
       let here : inc_of x.join.view.members n ≡ x.join.inc = (h.view nz).1 in
       granted_cases (λ (t : CoreState × Decision). Good w n x (proceeds x r t)) x.core r.id.req r.place
       (stay_keeps w n x j at, inl (still x [] refl))
-      (λ op full rq none. spread_keeps w n x r 0 j at (length_some x.core.queue full) (record { node = ok.1; inc = ok.2 ∙ here; req = rq }) (sym h.core_open ∙ op, ok.0, ok.3, λ i m b e. absurd (omega arith)))
+      (λ op full rq none. spread_keeps w n x r 0 j at (length_some x.core.queue full) (record { node = ok.1; inc = ok.2 ∙ here; req = rq }) (sym h.local.core_open ∙ op, ok.0, ok.3, λ i m b e. absurd (omega arith)))
       (λ op pos le.
-      let jo : joining.is_open x.join ≡ true = sym h.core_open ∙ op in
+      let jo : joining.is_open x.join ≡ true = sym h.local.core_open ∙ op in
       let rd : joining.is_ready x.join ≡ true = open_is_ready x.join jo in
       let t = h.finished r.id.req pos le in
       let es : List Effect = Send (packet x (locker_at x) (Release r.id.req)) ∷ [] in (
@@ -185,9 +185,9 @@ module _ {M : Machine} where
       let q : Some t.0 ≡ Some e = sym t.1 ∙ has in
       let same : t.0 ≡ e = cc in
       let pe : place ≡ e.place = sym pl ∙ sym t.2 ∙ ap (λ (a : Entry). a.place) same in
-      let full : x.core.queue ≢ [] = λ z. absurd (let u : x.core.spreading ≡ None = (h.idle z).0 in let v : ◌≡◌ {A = Option Spreading} (Some s) None = sym sp ∙ u in cc) in
+      let full : x.core.queue ≢ [] = λ z. absurd (let u : x.core.spreading ≡ None = (h.local.idle z).0 in let v : ◌≡◌ {A = Option Spreading} (Some s) None = sym sp ∙ u in cc) in
       let m = receiver_says x.core s.at from to in
-      let there : slice_get (spread_of x.join.view.members) s.at ≡ Some m.0 = subst (λ (ms : List Member). slice_get (spread_of ms) s.at ≡ Some m.0) h.core_members m.1 in
+      let there : slice_get (spread_of x.join.view.members) s.at ≡ Some m.0 = subst (λ (ms : List Member). slice_get (spread_of ms) s.at ≡ Some m.0) h.local.core_members m.1 in
       let got : Reached w m.0.node (inc_of x.join.view.members m.0.node) place = subst (λ (k : ℕ). Reached w k (inc_of x.join.view.members k) place) (sym m.2) ok in
       let ok0 : SpreadOk w n x t.0 (s.at + 1) = (
         t.3,
@@ -243,7 +243,7 @@ module _ {M : Machine} where
   taken_keeps w n x u j at g =
       let h : NodeOk w n x = j.nodes n x at in
       let op : x.core.is_open ≡ true = (and_true x.core.is_open (nat_lt (x.core.passed + length x.core.queue) updating.last_request) g).0 in
-      let rd : joining.is_ready x.join ≡ true = open_is_ready x.join (sym h.core_open ∙ op) in
+      let rd : joining.is_ready x.join ≡ true = open_is_ready x.join (sym h.local.core_open ∙ op) in
       let rq : ℕ → ℕ → List Update = more_requests w n x u in
       let y : NodeState M = headed x x.core.passed (x.core.queue ++ u ∷ []) x.core.spreading x.spreads x.settled x.outcome in
       let full : y.core.queue ≢ [] = append_some x.core.queue u in
@@ -266,30 +266,25 @@ module _ {M : Machine} where
       move_on w rq w.points n x y es more (other_requests w n x u) (unasked_on w n x u h j.log.unasked) j.points j.steady j at (record {
         grown = gr;
         node = record {
-          node = h.node;
+          local = record {
+            node = h.local.node;
+            positive = h.local.positive;
+            core_node = h.local.core_node;
+            core_members = h.local.core_members;
+            core_open = h.local.core_open;
+            entries = h.local.entries;
+            peopled = h.local.peopled;
+            ready_view = h.local.ready_view;
+            unsettled = h.local.unsettled;
+            pulling = h.local.pulling;
+            idle = λ q. absurd (full q);
+            full_state = λ q. (h.prefix.ready_state rd).0;
+          };
+          prefix = h.prefix;
           inc = h.inc;
-          positive = h.positive;
-          core_node = h.core_node;
-          core_members = h.core_members;
-          core_open = h.core_open;
-          entries = h.entries;
           view = h.view;
-          peopled = h.peopled;
-          ready_view = h.ready_view;
-          within = h.within;
-          registry = h.registry;
-          last = h.last;
-          ready_state = h.ready_state;
-          below = h.below;
-          unready = h.unready;
-          pull = h.pull;
-          pulled = h.pulled;
-          closed = h.closed;
           lock = h.lock;
           settled = h.settled;
-          unsettled = h.unsettled;
-          pulling = h.pulling;
-          idle = λ q. absurd (full q);
           marked = λ b c p. was_ready w w' b (inc_of x.join.view.members b) x.join.view.number e ao (h.marked b c p);
           all_ready = λ c b p. was_ready w w' b (inc_of x.join.view.members b) x.join.view.number e ao (h.all_ready c b p);
           spreading = λ s c. let t = h.spreading s c in
@@ -299,7 +294,6 @@ module _ {M : Machine} where
           behind = λ r c wt sr id. h.behind r c (waits_ r wt sr id) sr id;
           near_head = λ r wt sr id. h.near_head r (waits_ r wt sr id) sr id;
           near_doubt = λ r wt mb id. h.near_doubt r (fresh_ r (j.log.doubt r mb).2 id, wt.1) mb id;
-          full_state = λ q. (h.ready_state rd).0;
           outcome = λ r q sr id. h.outcome r (fresh_ r (j.log.asked r sr).1 id) sr id;
           queued = queued_;
           all_requests = ap (λ (l : List Update). length l) own ∙ length-append (w.requests n x.join.inc) (u ∷ []) ∙ omega (arith, h.all_requests, len);
@@ -309,15 +303,15 @@ module _ {M : Machine} where
         messages = asks_told (λ (p : Sent). Pooled w' p) y (asked_for (updating.first_ask x.core)) (λ req v vs some full_.
             let b = asked_some (x.core.is_open && nat_eq (length x.core.queue) 0) (x.core.passed + 1) req some in
             let none : length x.core.queue ≡ 0 = eq_true (length x.core.queue) 0 (and_true x.core.is_open (nat_eq (length x.core.queue) 0) b.0).1 in
-            let nz : x.join.view.number ≢ 0 = h.ready_view rd in
+            let nz : x.join.view.number ≢ 0 = h.local.ready_view rd in
             let here : inc_of x.join.view.members n ≡ x.join.inc = (h.view nz).1 in
-            let c = h.ready_state rd in
+            let c = h.prefix.ready_state rd in
             let asked : at_place (rq n x.join.inc) req ≡ Some v = subst (λ (q : ℕ). at_place (rq n x.join.inc) q ≡ Some v) (omega (arith, b.1)) (queued_ 0 v (ap (λ (l : List Update). slice_get l 0) full_)) in
             record {
               view = x.join.view;
               declared = (h.view nz).0;
               number = refl;
-              ok = subst (λ (m : ℕ). MsgOk w' x.join.view m (locker_at y) (Ask req v)) (sym h.node) (
+              ok = subst (λ (m : ℕ). MsgOk w' x.join.view m (locker_at y) (Ask req v)) (sym h.local.node) (
                 c.1,
                 c.2,
                 record { none = λ r s id. absurd (fresh_ r (j.log.asked r (record { at = s })).1 (record { node = id.node; inc = id.inc ∙ here; req = id.req ∙ sym b.1 }) (no_length x.core.queue none)) },

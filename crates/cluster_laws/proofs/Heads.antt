@@ -101,32 +101,27 @@ module _ {M : Machine} where
       move_keeps w n x y es j at (record {
         grown = gr;
         node = record {
-          node = g.node;
+          local = record {
+            node = g.local.node;
+            positive = g.local.positive;
+            core_node = g.local.core_node;
+            core_members = g.local.core_members;
+            core_open = g.local.core_open;
+            entries = g.local.entries;
+            peopled = g.local.peopled;
+            ready_view = g.local.ready_view;
+            pulling = g.local.pulling;
+            idle = k.idle;
+            unsettled = k.unsettled;
+            full_state = k.full_state;
+          };
+          prefix = g.prefix;
           inc = g.inc;
-          positive = g.positive;
-          core_node = g.core_node;
-          core_members = g.core_members;
-          core_open = g.core_open;
-          entries = g.entries;
           view = g.view;
-          peopled = g.peopled;
-          ready_view = g.ready_view;
-          within = g.within;
-          registry = g.registry;
-          last = g.last;
-          ready_state = g.ready_state;
-          below = g.below;
-          unready = g.unready;
-          pull = g.pull;
-          pulled = g.pulled;
-          closed = g.closed;
           lock = g.lock;
           marked = g.marked;
           all_ready = g.all_ready;
-          pulling = g.pulling;
-          idle = k.idle;
           settled = k.settled;
-          unsettled = k.unsettled;
           spreading = λ s c. let t = k.spreading s c in
               (t.0, t.1, t.2, t.4.0, t.4.1, t.3, reached w w' (locker_of x.join.view.members) (inc_of x.join.view.members (locker_of x.join.view.members)) t.0.place ex t.4.2, λ i m l f. reached w w' m.node (inc_of x.join.view.members m.node) t.0.place ex (t.4.3 i m l f));
           waiting = λ r s u wt sr id. let old = at_old r wt sr id in h.waiting r s u old.0 sr old.1;
@@ -134,7 +129,6 @@ module _ {M : Machine} where
           behind = λ r c wt sr id. let old = at_old r wt sr id in h.behind r c old.0 sr old.1;
           near_head = λ r wt sr id. let old = at_old r wt sr id in h.near_head r old.0 sr old.1;
           near_doubt = λ r wt mb id. let nw : waits x × (x.core.passed ≡ p) = k.new_doubt r wt mb id in h.near_doubt r nw.0 mb (record { node = id.node; inc = id.inc; req = id.req ∙ ap (λ (t : ℕ). t + 1) (sym nw.1) });
-          full_state = k.full_state;
           outcome = k.outcome;
           queued = k.queued;
           all_requests = h.all_requests ∙ sym k.all_requests;
@@ -175,9 +169,9 @@ module _ {M : Machine} where
       → ((r : Entry) (c : ℕ) → Stands w.log r → Has r n x.join.inc q → w.log.count x.join.view.number ≡ Some c → c < r.place) → Pooled (moved w n y es) (packet y (locker_at y) (Ask q u))
   ask_told w n x y es q u j at gr vw nd ic rd le rq nb =
       let h : NodeOk w n x = j.nodes n x at in
-      let nz : x.join.view.number ≢ 0 = h.ready_view rd in
+      let nz : x.join.view.number ≢ 0 = h.local.ready_view rd in
       let here : inc_of x.join.view.members n ≡ x.join.inc = (h.view nz).1 in
-      let c = h.ready_state rd in
+      let c = h.prefix.ready_state rd in
       told w n x y es (locker_at y) (Ask q u) h nz vw nd (
         c.1,
         c.2,

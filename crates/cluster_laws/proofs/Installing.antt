@@ -117,7 +117,7 @@ module _ {M : Machine} where
       let at1 : w1.nodes n ≡ Some y = moved_there w n y [] in
       let here = (h.view k.view).1 in
       let me : WasReady w1 n (inc_of x.join.view.members n) x.join.view.number = subst (λ (i : ℕ). WasReady w1 n i x.join.view.number) (sym here) (was_ready_here w1 n y j1 at1 refl) in
-      let were : AllWere w1 y = λ m pos. subst (λ (i : ℕ). WasReady w1 i (inc_of x.join.view.members i) x.join.view.number) (sym (alone_member x.join m a pos ∙ h.node)) me in
+      let were : AllWere w1 y = λ m pos. subst (λ (i : ℕ). WasReady w1 i (inc_of x.join.view.members i) x.join.view.number) (sym (alone_member x.join m a pos ∙ h.local.node)) me in
       let open_ : Out M = opens (joined z o.count o.last (record x.join { stage = stage.Open })) in
       let g : Good w1 n y open_ = opens_keeps w1 n y (Opened x.join.view.number ∷ []) j1 at1 refl refl were refl (none_told (λ (p : Sent). Pooled w1 p)) in
       (subst (λ (v : World M). Invariant v) (two_moves w n y [] open_) g.0, subst (λ (k : ℕ). Tells w.log.cap w.log.order n x.join.inc k open_) same g.1))
@@ -153,7 +153,7 @@ module _ {M : Machine} where
       let eq : joined x o.count o.last (record x.join { stage = stage.Ready }) ≡ readied x s.0 o.last x.outcome =
       λ i. record x { join = record x.join { stage = stage.Ready }; replica = s.1 i; last = o.last; offer = None; bytes = []; settled = if shows o.last x then Some (sym s.2 i) else x.settled } in
       let Q : ReconcileState × Step → Type 0 = λ r. Good w n x (goes_on (joined x o.count o.last r.0) o r.1) in
-      let g : Q (joining.becomes_ready x.join) = goes_keeps w n x x o s.0 x.outcome x.join.stage j at k s.2 (h.registry s.0 s.1) (λ a f st id le. h.outcome a f st id (omega (arith, le, done_at x s.0 s.1))) eq in
+      let g : Q (joining.becomes_ready x.join) = goes_keeps w n x x o s.0 x.outcome x.join.stage j at k s.2 (h.prefix.registry s.0 s.1) (λ a f st id le. h.outcome a f st id (omega (arith, le, done_at x s.0 s.1))) eq in
       becomes_ready_cases (λ (r : ReconcileState × Step). joining.becomes_ready x.join ≡ r → P r) x.join
       (λ a e. subst Q e g) (λ a e. subst Q e g) refl)
       (λ z r d kd next pl.
@@ -165,7 +165,7 @@ module _ {M : Machine} where
       let out : Option M.Outcome = (applied e.0 x).outcome in
       let eq : joined (applied e.0 x) o.count o.last (record x.join { stage = stage.Ready }) ≡ readied x t o.last out =
       λ i. record x { join = record x.join { stage = stage.Ready }; replica = replica_next x e.0 s.0 s.1 i; last = o.last; offer = None; bytes = []; settled = if shows o.last x then Some (sym dn i) else x.settled; outcome = out } in
-      let rg : t.registry ≡ registry_at M w.log.cap w.log.order t.done = ap (λ (g : M.Registry). (M.apply e.0 g).0) (h.registry s.0 s.1) ∙ sym (fold_next M w.log.cap w.log.order s.0.done e.0 here) in
+      let rg : t.registry ≡ registry_at M w.log.cap w.log.order t.done = ap (λ (g : M.Registry). (M.apply e.0 g).0) (h.prefix.registry s.0 s.1) ∙ sym (fold_next M w.log.cap w.log.order s.0.done e.0 here) in
       let taking : ReconcileState = record x.join { stage = stage.Taking } in
       let R : Option Entry → Type 0 = λ l. Good w n x (elim l [ None ↦ nothing x | Some a ↦ goes_on (joined (applied a x) o.count o.last (joining.taken taking true).0) o (joining.taken taking true).1 ]) in
       subst R (sym e.1) (goes_keeps w n x (applied e.0 x) o t out stage.Taking j at k dn rg (next_known w n x e.0 s.0 j at s.1 here) eq))
@@ -179,7 +179,7 @@ module _ {M : Machine} where
   pub recovers_keeps : IsMachine M → (w : World M) (n : ℕ) (x : NodeState M) → Invariant w → w.nodes n ≡ Some x → Recovers w n x (record { count = length w.log.order; cap = w.log.cap; last = last_of w.log.order }) → Good w n x (recovers x w.log.cap w.log.order)
   recovers_keeps law w n x j at k = hears_keeps w n x (record { count = length w.log.order; cap = w.log.cap; last = last_of w.log.order }) (done_within x w.log.cap) j at k (λ d e. within_is x w.log.cap d e) (λ hs.
       let s = state_of x hs in
-      let c : M.cap s.0.registry ≡ w.log.cap = ap M.cap ((j.nodes n x at).registry s.0 s.1) ∙ replay_cap law (take s.0.done w.log.order) (M.empty w.log.cap) ∙ law.begins w.log.cap in
+      let c : M.cap s.0.registry ≡ w.log.cap = ap M.cap ((j.nodes n x at).prefix.registry s.0 s.1) ∙ replay_cap law (take s.0.done w.log.order) (M.empty w.log.cap) ∙ law.begins w.log.cap in
       let g : (a b : ℕ) → a ≡ b → nat_eq a b ≡ true = same_eq in
       subst (λ (r : Option (Replica M)). (elim r [ None ↦ None | Some r ↦ if nat_eq (M.cap r.registry) w.log.cap then Some r.done else None ]) ≡ Some (done_of x)) (sym s.1) (subst (λ (b : Bool). cond b (Some s.0.done) None ≡ Some (done_of x)) (sym (g (M.cap s.0.registry) w.log.cap c)) (ap (λ (d : ℕ). Some d) (sym (done_at x s.0 s.1)))))
     where
@@ -205,7 +205,7 @@ module _ {M : Machine} where
       → Invariant (absorbed n (recovers (taken_view v x) w.log.cap (found_log found w.log).order) (with_log (claimed v.number (found_log found w.log)) w)) × Tells w.log.cap (found_log found w.log).order n x.join.inc x.core.passed (recovers (taken_view v x) w.log.cap (found_log found w.log).order)
   found_recovers law w n x v found j at up decl mem lk le =
       let h : NodeOk w n x = j.nodes n x at in
-      let me : locker_of v.members ≡ n = locker_is v.members x.join.node lk ∙ h.node in
+      let me : locker_of v.members ≡ n = locker_is v.members x.join.node lk ∙ h.local.node in
       let y : NodeState M = taken_view v x in
       let l : Log = found_log found w.log in
       let w1 : World M = moved w n y [] in
@@ -264,7 +264,7 @@ module _ {M : Machine} where
         held_view = λ nz. (v, decl, record { started = omega (arith, ap (inc_of v.members) lk, ap w.starts lk, mem, h.inc); view = λ z e. absurd ((without w n (locker_of v.members) z e).0 lk) });
         owner = λ m z e rd lk2 hd.
             let b = without w n m z e in
-            let a = (j.nodes m z b.1).ready_state rd in
+            let a = (j.nodes m z b.1).prefix.ready_state rd in
             let c = j.log.counts z.join.view.number a.1 a.2 in
             let same : v.number ≡ w.log.held = omega (arith, hd, c.1) in
             (same, (j.owner m z (record { runs = b.1; ready = rd; locker = lk2; held = hd ∙ same })).sure);
@@ -279,7 +279,7 @@ module _ {M : Machine} where
   pub takes_says : (w : World M) (n : ℕ) (x : NodeState M) (v : View) → NodeOk w n x → takes_view x v ≡ true → (x.join.view.number < v.number) × (inc_of v.members n ≡ x.join.inc)
   takes_says w n x v h g =
       let a = and_true (nat_lt x.join.view.number v.number) (is_member v.members x.join.node x.join.inc) g in
-      (lt_true x.join.view.number v.number a.0, ap (inc_of v.members) (sym h.node) ∙ (is_member_says v x.join.node x.join.inc a.1).1)
+      (lt_true x.join.view.number v.number a.0, ap (inc_of v.members) (sym h.local.node) ∙ (is_member_says v x.join.node x.join.inc a.1).1)
 
   recover_keeps : IsMachine M → (w : World M) (n : ℕ) (x : NodeState M) (v : View) (opening : Opening) → Invariant w → w.nodes n ≡ Some x → takes_view x v ≡ true → x.join.view.number < v.number → view_in w.chain v.number ≡ Some v → inc_of v.members n ≡ x.join.inc → is_locker v.members x.join.node ≡ true → w.log.held ≤ v.number
       → Invariant (elim opening [
@@ -290,7 +290,7 @@ module _ {M : Machine} where
       subst (λ (y : NodeState M). Invariant (absorb n (recovers y w.log.cap (found_log found w.log).order) (with_log (claimed v.number (found_log found w.log)) w))) (sym (entered_is x v g))
       (told_keeps (with_log (claimed v.number (found_log found w.log)) w) n (recovers (taken_view v x) w.log.cap (found_log found w.log).order) (found_recovers law w n x v found j at up decl mem lk le).0)
   recover_keeps law w n x v (Refused raised cause) j at g up decl mem lk le =
-      let me : locker_of v.members ≡ n = locker_is v.members x.join.node lk ∙ (j.nodes n x at).node in
+      let me : locker_of v.members ≡ n = locker_is v.members x.join.node lk ∙ (j.nodes n x at).local.node in
       halt_keeps (with_log (raise raised v.number w.log) w) n (raise_keeps w n x v raised j at up decl mem me le)
 
   pub install_keeps : IsMachine M → (w : World M) (n : ℕ) (x : NodeState M) (v : View) (opening : Opening) → Invariant w → w.nodes n ≡ Some x → view_in w.chain v.number ≡ Some v → Invariant (install w n x v opening)
@@ -315,6 +315,6 @@ module _ {M : Machine} where
       let b = and_true (takes_view x v) (is_locker v.members x.join.node && not (nat_lt v.number w.log.held)) a.0 in
       let c = and_true (is_locker v.members x.join.node) (not (nat_lt v.number w.log.held)) b.1 in
       let s = takes_says w n x v (j.nodes n x at) b.0 in
-      let me : locker_of v.members ≡ n = locker_is v.members x.join.node c.0 ∙ (j.nodes n x at).node in
+      let me : locker_of v.members ≡ n = locker_is v.members x.join.node c.0 ∙ (j.nodes n x at).local.node in
       failed_open w n x v j at s.0 decl s.1 me (lt_false v.number w.log.held (not_true (nat_lt v.number w.log.held) c.1)))
       (λ g. stop_keeps w n j)

@@ -1,5 +1,5 @@
 -- The invariants of the world.
-use Rattle.std.proofs.Common.{◌≡◌, ◌≢◌, ℕ, ◌+◌, ◌-◌, ◌<◌, ◌≤◌, ◌^◌, true, false, List, [], ◌∷◌, length, take, drop, Option, Some, None, slice_get}
+use Rattle.std.proofs.Common.{◌≡◌, ◌≢◌, ℕ, ◌+◌, ◌-◌, ◌<◌, ◌≤◌, ◌^◌, Bool, true, false, List, [], ◌∷◌, length, take, drop, Option, Some, None, slice_get}
 use Rattle.std.specs.List.{AllByRecursion}
 use Rattle.gum_messages.specs.declared.member.Member.{Member}
 use Rattle.gum_messages.specs.declared.view.View.{View}
@@ -96,6 +96,43 @@ pub record FittingLog (M : Machine) (cap : ℕ) (order : List Entry) (doubtful :
   pub records : AllByRecursion M.Fits order
   pub doubt : (r : Entry) → doubtful ≡ Some r → M.Fits r
 
+-- What the facts of a node alone speak of
+pub record Own : Type 0 where
+  pub node : ℕ
+  pub inc : ℕ
+  pub view : View
+  pub ready : Bool
+  pub open_ : Bool
+  pub core_node : ℕ
+  pub members : List Member
+  pub core_open : Bool
+  pub greatest : List ℕ
+  pub queue : List Update
+  pub spreading : Option Spreading
+  pub settled : Option ℕ
+  pub has_state : Bool
+  pub done : ℕ
+  pub offer : Option Offering
+
+-- One node, whatever its world is
+pub record Local (n : ℕ) (o : Own) : Type 0 where
+  pub node : o.node ≡ n
+  pub positive : 0 < o.inc
+  -- what the core keeps of the view
+  pub core_node : o.core_node ≡ n
+  pub core_members : o.members ≡ o.view.members
+  pub core_open : o.core_open ≡ o.open_
+  pub entries : length o.greatest ≡ length o.members
+  -- it has members, or is ready, in declared views alone
+  pub peopled : (m : ℕ) → 0 < inc_of o.view.members m → o.view.number ≢ 0
+  pub ready_view : o.ready ≡ true → o.view.number ≢ 0
+  -- the head; that of an open node isn't settled
+  pub idle : o.queue ≡ [] → (o.spreading ≡ None) × (o.settled ≡ None)
+  pub unsettled : o.open_ ≡ true → o.settled ≡ None
+  pub full_state : o.queue ≢ [] → o.has_state ≡ true
+  -- who pulls with a state is two records away or more
+  pub pulling : (f : Offering) → o.offer ≡ Some f → o.has_state ≡ true → o.done + 1 < f.count
+
 module _ {M : Machine} where
   -- no waiting head of it has its record among the first c
   pub record Clear (w : World M) (n i c : ℕ) : Type 0 where
@@ -136,42 +173,58 @@ module _ {M : Machine} where
     pub number : view.number ≡ p.view
     pub ok : MsgOk w view p.from p.to p.body
 
-  -- One node
+  abbrev pub own : NodeState M → Own
+  own x = record {
+    node = x.join.node;
+    inc = x.join.inc;
+    view = x.join.view;
+    ready = joining.is_ready x.join;
+    open_ = joining.is_open x.join;
+    core_node = x.core.node;
+    members = x.core.members;
+    core_open = x.core.is_open;
+    greatest = x.core.greatest;
+    queue = x.core.queue;
+    spreading = x.core.spreading;
+    settled = x.settled;
+    has_state = has_state x;
+    done = done_of x;
+    offer = x.offer;
+  }
+
+  abbrev pub done_in : Option (Replica M) → ℕ
+  done_in replica = elim replica [ None ↦ 0 | Some r ↦ r.done ]
+
+  abbrev pub is_held : Option (Replica M) → Bool
+  is_held replica = elim replica [ None ↦ false | Some r ↦ true ]
+
+  -- Its registry, and the one that it pulls, against the order of the log and the counts of views
+  pub record Prefix (cap : ℕ) (order : List Entry) (count : ℕ → Option ℕ) (s : ReconcileState) (replica : Option (Replica M)) (shown : Option Entry) (offer : Option Offering) (bytes : List ℕ) : Type 0 where
+    pub within : done_in replica ≤ length order
+    pub registry : (r : Replica M) → replica ≡ Some r → r.registry ≡ registry_at M cap order r.done
+    pub last : (r : Replica M) → replica ≡ Some r → shown ≡ at_place order r.done
+    -- counts of views
+    pub ready_state : joining.is_ready s ≡ true → (is_held replica ≡ true) × (c : ℕ) × (count s.view.number ≡ Some c) × (c ≤ done_in replica)
+    pub below : (v c : ℕ) → count v ≡ Some c → s.view.number < v → done_in replica ≤ c
+    pub unready : (c : ℕ) → count s.view.number ≡ Some c → joining.is_ready s ≡ false → done_in replica ≤ c
+    pub closed : joining.is_ready s ≡ true → joining.locks s ≡ true → joining.is_open s ≡ false → count s.view.number ≡ Some (done_in replica)
+    -- what it follows while it pulls
+    pub pull : (o : Offering) → offer ≡ Some o → (joining.is_ready s ≡ false) × (count s.view.number ≡ Some o.count) × (o.cap ≡ cap) × (o.last ≡ at_place order o.count) × (joining.locks s ≡ false)
+    pub pulled : (got : ℕ) → s.stage ≡ stage.Pulling got → (o : Offering) × (offer ≡ Some o) × (bytes ≡ take got (M.encode (registry_at M cap order o.count)))
+
+  -- One node in its world
   pub record NodeOk (w : World M) (n : ℕ) (x : NodeState M) : Type 0 where
-    pub node : x.join.node ≡ n
+    pub local : Local n (own x)
+    pub prefix : Prefix w.log.cap w.log.order w.log.count x.join x.replica x.last x.offer x.bytes
     pub inc : x.join.inc ≡ w.starts n
-    pub positive : 0 < x.join.inc
-    -- what the core keeps of the view
-    pub core_node : x.core.node ≡ n
-    pub core_members : x.core.members ≡ x.join.view.members
-    pub core_open : x.core.is_open ≡ joining.is_open x.join
-    pub entries : length x.core.greatest ≡ length x.core.members
     -- declared views
     pub view : x.join.view.number ≢ 0 → (view_in w.chain x.join.view.number ≡ Some x.join.view) × (inc_of x.join.view.members n ≡ x.join.inc)
-    pub peopled : (m : ℕ) → 0 < inc_of x.join.view.members m → x.join.view.number ≢ 0
-    pub ready_view : joining.is_ready x.join ≡ true → x.join.view.number ≢ 0
-    -- the registry is a prefix's
-    pub within : done_of x ≤ length w.log.order
-    pub registry : (r : Replica M) → x.replica ≡ Some r → r.registry ≡ registry_at M w.log.cap w.log.order r.done
-    pub last : (r : Replica M) → x.replica ≡ Some r → x.last ≡ at_place w.log.order r.done
-    -- counts of views
-    pub ready_state : joining.is_ready x.join ≡ true → (has_state x ≡ true) × (c : ℕ) × (w.log.count x.join.view.number ≡ Some c) × (c ≤ done_of x)
-    pub below : (v c : ℕ) → w.log.count v ≡ Some c → x.join.view.number < v → done_of x ≤ c
-    pub unready : (c : ℕ) → w.log.count x.join.view.number ≡ Some c → joining.is_ready x.join ≡ false → done_of x ≤ c
-    -- what it follows while it pulls
-    pub pull : (o : Offering) → x.offer ≡ Some o → (joining.is_ready x.join ≡ false) × (w.log.count x.join.view.number ≡ Some o.count) × (o.cap ≡ w.log.cap) × (o.last ≡ at_place w.log.order o.count) × (joining.locks x.join ≡ false)
-    pub pulled : (got : ℕ) → x.join.stage ≡ stage.Pulling got → (o : Offering) × (x.offer ≡ Some o) × (x.bytes ≡ take got (state_bytes w o.count))
-    pub closed : joining.is_ready x.join ≡ true → joining.locks x.join ≡ true → joining.is_open x.join ≡ false → w.log.count x.join.view.number ≡ Some (done_of x)
     -- the lock
     pub lock : (l : Lock) → x.core.lock ≡ Some l → (joining.is_open x.join ≡ true) × (joining.locks x.join ≡ true) × (r : Entry) × (at_place w.log.order (done_of x) ≡ Some r) × LoggedIn w.log r x.join.view.number × (r.id.node ≡ l.node) × (r.id.inc ≡ inc_of x.join.view.members l.node) × (r.id.req ≡ l.req) × (r.place ≡ l.place)
     -- the members that a locker counts as ready, and those of an open view
     pub marked : (m : ℕ) → joining.is_marked x.join m ≡ true → 0 < inc_of x.join.view.members m → WasReady w m (inc_of x.join.view.members m) x.join.view.number
     pub all_ready : joining.is_open x.join ≡ true → (m : ℕ) → 0 < inc_of x.join.view.members m → WasReady w m (inc_of x.join.view.members m) x.join.view.number
-    -- the head
-    pub idle : x.core.queue ≡ [] → (x.core.spreading ≡ None) × (x.settled ≡ None)
     pub settled : (k : ℕ) → x.settled ≡ Some k → (r : Entry) × Stands w.log r × (r.place ≡ k) × Has r n x.join.inc (at_head x) × (k ≤ done_of x) × (joining.is_ready x.join ≡ true → (c : ℕ) → w.log.count x.join.view.number ≡ Some c → k ≤ c)
-    -- the head of an open node isn't settled
-    pub unsettled : joining.is_open x.join ≡ true → x.settled ≡ None
     pub spreading : (s : Spreading) → x.core.spreading ≡ Some s → (r : Entry) × (x.spreads ≡ Some r) × (r.place ≡ s.place) × (joining.is_open x.join ≡ true) × LoggedIn w.log r x.join.view.number × Has r n x.join.inc (at_head x) × Reached w (locker_of x.join.view.members) (inc_of x.join.view.members (locker_of x.join.view.members)) r.place × ((j : ℕ) (m : Member) → j < s.at → slice_get (spread_of x.join.view.members) j ≡ Some m → Reached w m.node (inc_of x.join.view.members m.node) r.place)
     -- heads and records: no record of a view with this incarnation stands behind a waiting head's
     pub waiting : (r s : Entry) (u : View) → waits x → Stands w.log r → Has r n x.join.inc (at_head x) → Stands w.log s → r.place < s.place → view_in w.chain (w.log.view_at s.place) ≡ Some u → inc_of u.members n ≢ x.join.inc
@@ -180,9 +233,6 @@ module _ {M : Machine} where
     -- its waiting head's record is the next one or an applied one
     pub near_head : (r : Entry) → waits x → Stands w.log r → Has r n x.join.inc (at_head x) → r.place ≤ done_of x + 1
     pub near_doubt : (r : Entry) → waits x → w.log.doubtful ≡ Some r → Has r n x.join.inc (at_head x) → length w.log.order ≤ done_of x
-    pub full_state : x.core.queue ≢ [] → has_state x ≡ true
-    -- who pulls with a state is two records away or more
-    pub pulling : (o : Offering) → x.offer ≡ Some o → has_state x ≡ true → done_of x + 1 < o.count
     -- what came of the head is kept once its record was applied
     pub outcome : (r : Entry) → x.core.queue ≢ [] → Stands w.log r → Has r n x.join.inc (at_head x) → r.place ≤ done_of x → x.outcome ≡ Some (outcome_at M w.log.cap w.log.order (r.place - 1) r)
     -- the queued updates are those of the requests behind the ones that left

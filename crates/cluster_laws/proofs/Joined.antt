@@ -201,7 +201,7 @@ module _ {M : Machine} where
       } in
       let here : (y : NodeState M) → o ≡ Some y → u.nodes n ≡ Some y = λ y q. (λ k. e k n) ∙ self_put n o ∙ q in
       let all : (y : NodeState M) → o ≡ Some y → (m : ℕ) → joining.locks y.join ≡ true → joining.is_open y.join ≡ true → 0 < inc_of y.join.view.members m → Readied u m (inc_of y.join.view.members m) y.join.view.number = λ y q m lk op lt. ⊎_elim
-      (λ (c : m ≡ n). subst (λ (a : ℕ). Readied u a (inc_of y.join.view.members a) y.join.view.number) (sym c) (self y q (open_is_ready y.join op) (inc_of y.join.view.members n) (let h : NodeOk u n y = inv.nodes n y (here y q) in let a : inc_of y.join.view.members n ≡ y.join.inc = (h.view (h.ready_view (open_is_ready y.join op))).1 in let b : y.join.inc ≡ u.starts n = h.inc in omega (arith, a, b))))
+      (λ (c : m ≡ n). subst (λ (a : ℕ). Readied u a (inc_of y.join.view.members a) y.join.view.number) (sym c) (self y q (open_is_ready y.join op) (inc_of y.join.view.members n) (let h : NodeOk u n y = inv.nodes n y (here y q) in let a : inc_of y.join.view.members n ≡ y.join.inc = (h.view (h.local.ready_view (open_is_ready y.join op))).1 in let b : y.join.inc ≡ u.starts n = h.inc in omega (arith, a, b))))
       (λ (c : Readied w m (inc_of y.join.view.members m) y.join.view.number). R m (inc_of y.join.view.members m) y.join.view.number c)
       ((f y q).opened m lk op lt) in
       record {
@@ -221,7 +221,7 @@ module _ {M : Machine} where
             (λ (c : (a : ℕ) × (slice_get (sent es) a ≡ Some p)). some o (λ none. absurd (nothing_at p c.0 (subst (λ (l : List Sent). slice_get l c.0 ≡ Some p) (stop none) c.1))) (λ y q.
             let g = (f y q).opens c.0 p c.1 bd in
             let h : NodeOk u n y = inv.nodes n y (here y q) in
-            let vv : Some V ≡ Some y.join.view = sym vw ∙ ap (view_in u.chain) g.0 ∙ (h.view (h.ready_view (open_is_ready y.join g.2))).0 in
+            let vv : Some V ≡ Some y.join.view = sym vw ∙ ap (view_in u.chain) g.0 ∙ (h.view (h.local.ready_view (open_is_ready y.join g.2))).0 in
             let same : V ≡ y.join.view = cc in
             subst (λ (b : ℕ). Readied u m (inc_of V.members m) b) (sym g.0) (subst (λ (t : View). Readied u m (inc_of t.members m) y.join.view.number) (sym same) (all y q m g.1 g.2 (subst (λ (t : View). 0 < inc_of t.members m) same lt)))))
             (slice_get_append w.pool (sent es) k p (ap (λ (l : List Sent). slice_get l k) (sym pl) ∙ kat));
@@ -374,7 +374,7 @@ module _ {M : Machine} where
     where
       one : (k : ℕ) (p : Sent) → slice_get (packet y (locker_at y) Ready ∷ []) k ≡ Some p → (p.from ≡ n) × (p.view ≡ x.join.view.number) × (joining.is_ready (record x.join { stage = st }) ≡ true)
       one zero p g = let q : packet y (locker_at y) Ready ≡ p = cc in
-          (ap (λ (t : Sent). t.from) (sym q) ∙ ap (λ (t : ReconcileState). t.node) e ∙ (inv.nodes n x at).node, ap (λ (t : Sent). t.view) (sym q) ∙ ap (λ (t : ReconcileState). t.view.number) e, rd)
+          (ap (λ (t : Sent). t.from) (sym q) ∙ ap (λ (t : ReconcileState). t.node) e ∙ (inv.nodes n x at).local.node, ap (λ (t : Sent). t.view) (sym q) ∙ ap (λ (t : ReconcileState). t.view.number) e, rd)
       one (suc k) p g = absurd (cc)
 
       other : (k : ℕ) (p : Sent) → slice_get (packet y (locker_at y) Ready ∷ []) k ≡ Some p → p.body ≡ OpenView → ⊥
@@ -417,8 +417,8 @@ module _ {M : Machine} where
       (λ e lt. need_fine w n x (record x { join = record x.join { stage = stage.Pulling (offset + length bytes) }; bytes = x.bytes ++ bytes }) (stage.Pulling (offset + length bytes)) (locker_at x) (offset + length bytes) j at (pulling_unready x.join offset e) refl refl)
       (λ e le.
       let nr : joining.is_ready x.join ≡ false = pulling_unready x.join offset e in
-      let q = h.pulled offset e in
-      let nl : joining.locks x.join ≡ false = (h.pull q.0 q.1).4 in
+      let q = h.prefix.pulled offset e in
+      let nl : joining.locks x.join ≡ false = (h.prefix.pull q.0 q.1).4 in
       let s : ReconcileState = record x.join { stage = stage.Taking } in
       option_cases (λ (o : Out M). Fine w n x o) x.offer (nothing x) (λ o. elim (M.decode o.cap (x.bytes ++ bytes)) [
         | Some registry ↦ says_ready (joined (with_replica x registry o.count) o.count o.last (joining.taken s true).0)
@@ -454,7 +454,7 @@ module _ {M : Machine} where
         marked = mk;
         opened = λ m lk op lt. ⊎_elim
             (λ (c : joining.is_marked (joining.marked x.join from) m ≡ true). inr (mk m lt c))
-            (λ (c : (nat_eq m x.join.node && joining.is_ready x.join) ≡ true). inl (eq_true m x.join.node (and_true (nat_eq m x.join.node) (joining.is_ready x.join) c).0 ∙ (inv.nodes n x at).node))
+            (λ (c : (nat_eq m x.join.node && joining.is_ready x.join) ≡ true). inl (eq_true m x.join.node (and_true (nat_eq m x.join.node) (joining.is_ready x.join) c).0 ∙ (inv.nodes n x at).local.node))
             (or_either (joining.is_marked (joining.marked x.join from) m) (nat_eq m x.join.node && joining.is_ready x.join) (each_counts (joining.marked x.join from) m (and_true (joining.is_ready (joining.marked x.join from)) (joining.all_counted (joining.marked x.join from)) a).1 lt));
         readies = λ k p e b. absurd (no_ready z (spread_of z.join.view.members) es q k p e b);
         opens = λ k p e b. (in_view z (spread_of z.join.view.members) es q k p e b, l, refl);
@@ -560,7 +560,7 @@ module _ {M : Machine} where
       (λ (h : (a : ℕ) × (slice_get (sent C) a ≡ Some p)). inr (h.0, ap (λ (l : List Effect). slice_get (sent l) h.0) (sym cs) ∙ h.1))
       (slice_get_append (sent (A ++ B)) (sent C) k p (ap (λ (l : List Sent). slice_get l k) (sym (sent_append (A ++ B) C)) ∙ ap (λ (l : List Effect). slice_get (sent l) k) (append_assoc A B C) ∙ e)) in
       fine_as w n x x (A ++ (B ++ C)) (good_told w n x (A ++ (B ++ C)) j at
-      (λ k p e b. ⊎_elim (λ (h : (a : ℕ) × (slice_get (sent (A ++ B)) a ≡ Some p)). absurd ((calm_ab h.0 p h.1).0 b)) (λ (h : (a : ℕ) × (slice_get (p0 ∷ []) a ≡ Some p)). (ap (λ (t : Sent). t.from) (sym (one p0 p h.0 h.1)) ∙ (inv.nodes n x at).node, ap (λ (t : Sent). t.view) (sym (one p0 p h.0 h.1)), rd)) (part k p e))
+      (λ k p e b. ⊎_elim (λ (h : (a : ℕ) × (slice_get (sent (A ++ B)) a ≡ Some p)). absurd ((calm_ab h.0 p h.1).0 b)) (λ (h : (a : ℕ) × (slice_get (p0 ∷ []) a ≡ Some p)). (ap (λ (t : Sent). t.from) (sym (one p0 p h.0 h.1)) ∙ (inv.nodes n x at).local.node, ap (λ (t : Sent). t.view) (sym (one p0 p h.0 h.1)), rd)) (part k p e))
       (λ k p e b. ⊎_elim (λ (h : (a : ℕ) × (slice_get (sent (A ++ B)) a ≡ Some p)). absurd ((calm_ab h.0 p h.1).1 b)) (λ (h : (a : ℕ) × (slice_get (p0 ∷ []) a ≡ Some p)). absurd (let c : Ready ≡ OpenView = ap (λ (t : Sent). t.body) (one p0 p h.0 h.1) ∙ b in cc)) (part k p e))))
       (join_calm x (joining.ticked x.join))
     where
@@ -580,11 +580,11 @@ module _ {M : Machine} where
   hears_fine w n x k p answer inv j at kat pv pos (Piece total offset bytes) e = piece_fine w n x total offset bytes inv j at
   hears_fine w n x k p answer inv j at kat pv pos Ready e =
       let h : NodeOk w n x = inv.nodes n x at in
-      let vw : view_in w.chain p.view ≡ Some x.join.view = ap (view_in w.chain) pv ∙ (h.view (h.peopled p.from pos)).0 in
+      let vw : view_in w.chain p.view ≡ Some x.join.view = ap (view_in w.chain) pv ∙ (h.view (h.local.peopled p.from pos)).0 in
       ready_fine w n x p.from inv j at pos (subst (λ (a : ℕ). Readied w p.from (inc_of x.join.view.members p.from) a) pv (j.readies k p x.join.view kat e vw))
   hears_fine w n x k p answer inv j at kat pv pos OpenView e =
       let h : NodeOk w n x = inv.nodes n x at in
-      let vw : view_in w.chain p.view ≡ Some x.join.view = ap (view_in w.chain) pv ∙ (h.view (h.peopled p.from pos)).0 in
+      let vw : view_in w.chain p.view ≡ Some x.join.view = ap (view_in w.chain) pv ∙ (h.view (h.local.peopled p.from pos)).0 in
       open_view_fine w n x p.from j at (λ m lt. subst (λ (a : ℕ). Readied w m (inc_of x.join.view.members m) a) pv (j.opens k p x.join.view kat e vw m lt))
 
   -- a view is taken
@@ -597,7 +597,7 @@ module _ {M : Machine} where
         entries = length-replicate (length v.members) false;
         closed = λ asc lk rd op. uncounted x.join v st asc lk (na rd op);
         marked = λ m lt mk. absurd (locker_not (joining.is_marked t m) mk (none_marked x.join v st (length v.members) m));
-        opened = λ m lk op lt. inl (lone v.members x.join.node n m (al op) (inv.nodes n x at).node lt);
+        opened = λ m lk op lt. inl (lone v.members x.join.node n m (al op) (inv.nodes n x at).local.node lt);
         readies = λ k p e b. absurd ((q k p e).0 b);
         opens = λ k p e b. absurd ((q k p e).1 b);
       }

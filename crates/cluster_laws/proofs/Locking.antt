@@ -35,7 +35,7 @@ module _ {M : Machine} where
       let hr : Has r from (inc_of x.join.view.members from) q = ok.3 in
       let same : r.place ≡ hl.2.place = j.log.ids r hl.2 sr (record { at = hl.4.at }) (hr.node ∙ sym ln ∙ sym hl.5) (hr.inc ∙ ap (inc_of x.join.view.members) (sym ln) ∙ sym hl.6) (hr.req ∙ sym lq ∙ sym hl.7) in
       let pl : hl.2.place ≡ done_of x = j.log.places (done_of x) hl.2 hl.3 in
-      let all : length w.log.order ≤ done_of b = let g : r.place ≤ done_of b = (ok.4.each m b.join.inc i (j.nodes m b bt).positive).done b bt refl in omega (arith, k.all_done, same, pl) in
+      let all : length w.log.order ≤ done_of b = let g : r.place ≤ done_of b = (ok.4.each m b.join.inc i (j.nodes m b bt).local.positive).done b bt refl in omega (arith, k.all_done, same, pl) in
       record {
         near = omega arith;
         free = λ e. all;
@@ -57,38 +57,19 @@ module _ {M : Machine} where
       move_keeps w n x y [] j at (record {
         grown = gr;
         node = node_in w n x y [] j at gr (record {
-          node = h.node;
+          local = h.local;
+          prefix = h.prefix;
           inc = h.inc;
-          positive = h.positive;
-          core_node = h.core_node;
-          core_members = h.core_members;
-          core_open = h.core_open;
-          entries = h.entries;
           view = h.view;
-          peopled = h.peopled;
-          ready_view = h.ready_view;
-          within = h.within;
-          registry = h.registry;
-          last = h.last;
-          ready_state = h.ready_state;
-          below = h.below;
-          unready = h.unready;
-          pull = h.pull;
-          pulled = h.pulled;
-          closed = h.closed;
           marked = h.marked;
           all_ready = h.all_ready;
-          idle = h.idle;
           settled = h.settled;
-          unsettled = h.unsettled;
           spreading = h.spreading;
           waiting = h.waiting;
           waiting_doubt = h.waiting_doubt;
           behind = h.behind;
           near_head = h.near_head;
           near_doubt = h.near_doubt;
-          full_state = h.full_state;
-          pulling = h.pulling;
           outcome = h.outcome;
           queued = h.queued;
           all_requests = h.all_requests;

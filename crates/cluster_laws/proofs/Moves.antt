@@ -1,5 +1,5 @@
 -- A world in which one node has moved and messages were sent, its log as before.
-use Rattle.std.proofs.Common.{◌≡◌, ◌≢◌, ◌⊎◌, inl, inr, ⊎_elim, ℕ, zero, suc, ◌+◌, ◌<◌, ◌≤◌, true, List, [], ◌∷◌, ◌++◌, length, Option, Some, None, slice_get, unwrap_or, refl, sym, ap, ◌∙◌, subst, arith}
+use Rattle.std.proofs.Common.{◌≡◌, ◌≢◌, ◌⊎◌, inl, inr, ⊎_elim, ℕ, zero, suc, ◌+◌, ◌<◌, ◌≤◌, Bool, true, false, List, [], ◌∷◌, ◌++◌, length, Option, Some, None, slice_get, unwrap_or, refl, sym, ap, ◌∙◌, subst, arith}
 use Rattle.gum_messages.specs.declared.member.Member.{Member}
 use Rattle.gum_messages.specs.declared.view.View.{View}
 use Rattle.gum_messages.specs.Members.{inc_of, is_locker, locker_of, index_of}
@@ -7,6 +7,7 @@ use Rattle.gum_messages.specs.Places.{at_place}
 use Rattle.update_records.specs.declared.update.Update.{Update}
 use Rattle.gum_core.specs.declared.lock.Lock.{Lock}
 use Rattle.gum_core.specs.Updating.{greatest_of}
+use Rattle.view_reconcile.specs.declared.stage.Stage.{Stage}
 use Rattle.view_reconcile.specs.Joining.{ReconcileState}
 use Rattle.view_reconcile.specs.Joining as joining
 use Rattle.view_reconcile.specs.Chains.{view_in}
@@ -15,10 +16,11 @@ use Rattle.gum_messages.specs.declared.body.Body.{Body}
 use Rattle.gum_messages.specs.Messages.{Sent}
 use Rattle.cluster_rules.specs.declared.effect.Effect.{Effect}
 use Rattle.cluster_rules.specs.declared.effect.Effect.TheVariants.{Send}
+use Rattle.cluster_rules.specs.declared.offering.Offering.{Offering}
 use Rattle.cluster_rules.specs.Nodes.{NodeState, Out, becomes, done_of, nothing, packet, tells}
 use Rattle.cluster_rules.specs.Worlds.{Point, World, acked, put, sent}
 use Rattle.cluster_laws.proofs.History.{absorbed, answered}
-use Rattle.cluster_laws.proofs.Inv.{AckOk, Invariant, LogOk, MemberOk, MsgOk, NodeOk, Owner, OwnerOk, Past, Pooled, Reached, Requested}
+use Rattle.cluster_laws.proofs.Inv.{AckOk, Invariant, Local, LogOk, MemberOk, MsgOk, NodeOk, Owner, OwnerOk, Past, Pooled, Prefix, Reached, Requested, WasReady, own}
 use Rattle.cluster_laws.proofs.Stable.{AskedOnly, Ext, Grown, all_reached, asked_, entered_, grown_refl, longer_refl, past, pooled, reached, was_ready}
 
 pub put_cases : {A : Type 0} (f : ℕ → Option A) (n : ℕ) (v : Option A) (m : ℕ) (z : A) → put f n v m ≡ Some z → ((m ≡ n) × (v ≡ Some z)) ⊎ ((m ≢ n) × (f m ≡ Some z))
@@ -111,36 +113,17 @@ module _ {M : Machine} where
   pub node_beside : (w : World M) (nodes : ℕ → Option (NodeState M)) (pool : List Sent) (acks : List (ℕ × ℕ)) (rq : ℕ → ℕ → List Update) (ps : List (Point M)) (m : ℕ) (y : NodeState M) → Ext w (beside w nodes pool acks rq ps) → AskedOnly w → length (rq m y.join.inc) ≡ length (w.requests m y.join.inc) → ((a : ℕ) (t : ℕ × ℕ) → slice_get w.acks a ≡ Some t → slice_get acks a ≡ Some t) → NodeOk w m y → NodeOk (beside w nodes pool acks rq ps) m y
   node_beside w nodes pool acks rq ps m y e a same more h =
       let w' : World M = beside w nodes pool acks rq ps in record {
-        node = h.node;
+        local = h.local;
+        prefix = h.prefix;
         inc = h.inc;
-        positive = h.positive;
-        core_node = h.core_node;
-        core_members = h.core_members;
-        core_open = h.core_open;
-        entries = h.entries;
         view = h.view;
-        peopled = h.peopled;
-        ready_view = h.ready_view;
-        within = h.within;
-        registry = h.registry;
-        last = h.last;
-        ready_state = h.ready_state;
-        below = h.below;
-        unready = h.unready;
-        pull = h.pull;
-        pulled = h.pulled;
-        closed = h.closed;
         lock = h.lock;
-        idle = h.idle;
         settled = h.settled;
-        unsettled = h.unsettled;
         waiting = h.waiting;
         waiting_doubt = h.waiting_doubt;
         behind = h.behind;
         near_head = h.near_head;
         near_doubt = h.near_doubt;
-        full_state = h.full_state;
-        pulling = h.pulling;
         outcome = h.outcome;
         queued = λ k u f. e.requests m y.join.inc (y.core.passed + (k + 1)) u (h.queued k u f);
         all_requests = same ∙ h.all_requests;
@@ -198,6 +181,37 @@ module _ {M : Machine} where
 
   pub node_in : (w : World M) (n : ℕ) (x y : NodeState M) (es : List Effect) → Invariant w → w.nodes n ≡ Some x → Grown x y → NodeOk w n y → NodeOk (moved w n y es) n y
   node_in w n x y es j at g h = node_stays w n (becomes y es) n y (ext_absorb w n x y es at g) (λ r s. (j.log.asked r s).1) h
+
+  -- a node that isn't open comes to another stage, and may pull something else: its view, its head and its registry stay
+  abbrev pub staged : NodeState M → Stage → Bool → Option Offering → List ℕ → NodeState M
+  staged x t op of bs = record x { join = record x.join { stage = t }; core = record x.core { is_open = op }; offer = of; bytes = bs }
+
+  pub staged_ok : (w : World M) (n : ℕ) (x : NodeState M) (t : Stage) (op : Bool) (of : Option Offering) (bs : List ℕ) → NodeOk w n x → joining.is_open x.join ≡ false → Local n (own (staged x t op of bs))
+      → Prefix w.log.cap w.log.order w.log.count (record x.join { stage = t }) x.replica x.last of bs
+      → (joining.is_open (record x.join { stage = t }) ≡ true → (m : ℕ) → 0 < inc_of x.join.view.members m → WasReady w m (inc_of x.join.view.members m) x.join.view.number)
+      → (joining.is_ready (record x.join { stage = t }) ≡ true → joining.is_ready x.join ≡ true)
+      → NodeOk w n (staged x t op of bs)
+  staged_ok w n x t op of bs h shut local prefix were rd =
+      let not_open : joining.is_open x.join ≡ true → ⊥ = λ e. let q : true ≡ false = sym e ∙ shut in cc in record {
+        local = local;
+        prefix = prefix;
+        inc = h.inc;
+        view = h.view;
+        marked = h.marked;
+        waiting = h.waiting;
+        waiting_doubt = h.waiting_doubt;
+        near_head = h.near_head;
+        near_doubt = h.near_doubt;
+        outcome = h.outcome;
+        queued = h.queued;
+        all_requests = h.all_requests;
+        finished = h.finished;
+        lock = λ l e. absurd (not_open ((h.lock l e).0));
+        all_ready = were;
+        settled = λ k e. let g = h.settled k e in (g.0, g.1, g.2, g.3, g.4, λ a. g.5 (rd a));
+        spreading = λ s e. absurd (not_open ((h.spreading s e).3));
+        behind = λ r c wt st id a. h.behind r c wt st id (rd a);
+      }
 
   -- what the moved node itself has
   pub self_node : (w : World M) (n : ℕ) (y : NodeState M) (es : List Effect) (P : NodeState M → Type 0) → P y → (z : NodeState M) → (moved w n y es).nodes n ≡ Some z → P z
@@ -299,7 +313,7 @@ module _ {M : Machine} where
   pub told : (w : World M) (n : ℕ) (x y : NodeState M) (es : List Effect) (to : ℕ) (b : Body) → NodeOk w n x → x.join.view.number ≢ 0 → y.join.view ≡ x.join.view → y.join.node ≡ x.join.node → MsgOk (moved w n y es) x.join.view n to b → Pooled (moved w n y es) (packet y to b)
   told w n x y es to b h nz vw nd ok =
       let d = h.view nz in
-      let me : n ≡ y.join.node = sym (nd ∙ h.node) in
+      let me : n ≡ y.join.node = sym (nd ∙ h.local.node) in
       record {
         view = x.join.view;
         declared = ap (λ (v : View). view_in w.chain v.number) vw ∙ d.0;

@@ -27,7 +27,7 @@ use Rattle.cluster_rules.specs.Worlds.{World}
 use Rattle.cluster_laws.proofs.History.{absorbed}
 use Rattle.cluster_laws.proofs.Inv.{AckOk, Fitting, Has, Invariant, MemberOk, MsgOk, NodeOk, Pooled, WasReady, at_head, state_bytes, waits}
 use Rattle.cluster_laws.proofs.Stable.{Grown, grown_refl}
-use Rattle.cluster_laws.proofs.Moves.{quiet_points, move_keeps, moved, node_in, none_acked, one_told, reached_self, self_node, stay_keeps, stay_sends, told}
+use Rattle.cluster_laws.proofs.Moves.{quiet_points, move_keeps, moved, node_in, none_acked, one_told, reached_self, self_node, staged_ok, stay_keeps, stay_sends, told}
 use Rattle.cluster_laws.proofs.Applying.{and_true, done_at, next_outcome, eq_true, fold_next, locker_not, next_replica, not_true, replica_next, state_of}
 use Rattle.std.proofs.Math.Seq.{take-add}
 use Rattle.std.proofs.lemmas.List.{take_all}
@@ -99,14 +99,14 @@ has_bytes s = go s.stage
 module _ {M : Machine} where
   pub was_ready_self : (w : World M) (n : ℕ) (y : NodeState M) (es : List Effect) → y.join.inc ≤ w.starts n → NodeOk (moved w n y es) n y → joining.is_ready y.join ≡ true → WasReady (moved w n y es) n y.join.inc y.join.view.number
   was_ready_self w n y es st h rd =
-      let c = h.ready_state rd in
+      let c = h.prefix.ready_state rd in
       record {
         count = c.1;
         counted = c.2;
         reached = reached_self w n y es y.join.inc c.1 st c.3;
         clear = record {
           started = st;
-          within = omega (arith, c.3, h.within);
+          within = omega (arith, c.3, h.prefix.within);
           clear = λ z r at same wt s id. self_node w n y es (λ (t : NodeState M). waits t → Has r n y.join.inc (at_head t) → c.1 < r.place) (λ a b. h.behind r c.1 a s b rd c.2) z at wt id;
         };
       }
@@ -143,48 +143,36 @@ module _ {M : Machine} where
       let shut : joining.is_open x.join ≡ false = unready_unopen x.join nr in
       let shut' : joining.is_open y.join ≡ false = unready_unopen y.join nt in
       let no_ready : joining.is_ready y.join ≡ true → ⊥ = λ e. locker_not (joining.is_ready y.join) e nt in
-      let not_open : joining.is_open x.join ≡ true → ⊥ = λ e. locker_not (joining.is_open x.join) e shut in
       move_keeps w n x y es j at (record {
         grown = gr;
-        node = node_in w n x y es j at gr (record {
-          node = h.node;
-          inc = h.inc;
-          positive = h.positive;
-          core_node = h.core_node;
-          core_members = h.core_members;
-          entries = h.entries;
-          view = h.view;
-          peopled = h.peopled;
-          within = h.within;
-          registry = h.registry;
-          last = h.last;
-          below = h.below;
-          marked = h.marked;
-          idle = h.idle;
-          waiting = h.waiting;
-          waiting_doubt = h.waiting_doubt;
-          near_head = h.near_head;
-          near_doubt = h.near_doubt;
-          full_state = h.full_state;
-          outcome = h.outcome;
-          queued = h.queued;
-          all_requests = h.all_requests;
-          finished = h.finished;
-          core_open = h.core_open ∙ shut ∙ sym shut';
-          unsettled = λ c. absurd (locker_not (joining.is_open y.join) c shut');
-          ready_view = λ c. nz;
-          ready_state = λ c. absurd (no_ready c);
-          unready = λ c i b. h.unready c i nr;
-          pull = λ o e. let p = po o e in (nt, p.0, p.1, p.2, p.3);
-          pulled = pu;
-          pulling = λ o e. (po o e).4;
-          closed = λ a b c. absurd (no_ready a);
-          lock = λ l e. absurd (not_open ((h.lock l e).0));
-          all_ready = λ c. absurd (locker_not (joining.is_open y.join) c shut');
-          settled = λ k e. let g = h.settled k e in (g.0, g.1, g.2, g.3, g.4, λ a. absurd (no_ready a));
-          spreading = λ s e. absurd (not_open ((h.spreading s e).3));
-          behind = λ r c wt st id rd. absurd (no_ready rd);
-        });
+        node = node_in w n x y es j at gr (staged_ok w n x t x.core.is_open of bs h shut
+            (record {
+              node = h.local.node;
+              positive = h.local.positive;
+              core_node = h.local.core_node;
+              core_members = h.local.core_members;
+              entries = h.local.entries;
+              peopled = h.local.peopled;
+              idle = h.local.idle;
+              full_state = h.local.full_state;
+              core_open = h.local.core_open ∙ shut ∙ sym shut';
+              unsettled = λ c. absurd (locker_not (joining.is_open y.join) c shut');
+              ready_view = λ c. nz;
+              pulling = λ o e. (po o e).4;
+            })
+            (record {
+              within = h.prefix.within;
+              registry = h.prefix.registry;
+              last = h.prefix.last;
+              below = h.prefix.below;
+              ready_state = λ c. absurd (no_ready c);
+              unready = λ c i b. h.prefix.unready c i nr;
+              pull = λ o e. let p = po o e in (nt, p.0, p.1, p.2, p.3);
+              pulled = pu;
+              closed = λ a b c. absurd (no_ready a);
+            })
+            (λ c. absurd (locker_not (joining.is_open y.join) c shut'))
+            (λ c. absurd (no_ready c)));
         messages = one_told (λ (p : Sent). Pooled (moved w n y es) p) (packet y (locker_at x) (Need offset)) (told w n x y es (locker_at x) (Need offset) h nz refl refl tt);
         acks = none_acked (λ (a b : ℕ). AckOk (moved w n y es) a b);
         points = quiet_points w n y es refl;
@@ -206,7 +194,7 @@ module _ {M : Machine} where
   pub far_from : (w : World M) (n : ℕ) (x : NodeState M) (c : ℕ) (last : Option Entry) (known : Option ℕ) → Invariant w → w.nodes n ≡ Some x → joining.is_ready x.join ≡ false → w.log.count x.join.view.number ≡ Some c → at_place w.log.order c ≡ last → known ≡ Some (done_of x) → joining.has_all known c ≡ false → joining.lacks_last known c (place_of last) ≡ false → done_of x + 1 < c
   far_from w n x c last known j at nr ct la kn na nl =
       let h : NodeOk w n x = j.nodes n x at in
-      let up : done_of x ≤ c = h.unready c ct nr in
+      let up : done_of x ≤ c = h.prefix.unready c ct nr in
       let cl : c ≤ length w.log.order = (j.log.counts x.join.view.number c ct).0 in
       let not_all : nat_eq (done_of x) c ≡ false = ap (λ (d : Option ℕ). joining.has_all d c) (sym kn) ∙ na in
       let d_ne : done_of x ≢ c = eq_not (done_of x) c not_all in
@@ -239,7 +227,7 @@ module _ {M : Machine} where
       let s = known_is x o.count kn in
       let eq : joined x o.count o.last (record x.join { stage = stage.Ready }) ≡ readied x s.0 o.last x.outcome =
       λ i. record x { join = record x.join { stage = stage.Ready }; replica = s.1 i; last = o.last; offer = None; bytes = []; settled = if shows o.last x then Some (sym s.2 i) else x.settled } in
-      says_keeps w n x s.0 o.last x.outcome j at (record { unready = nr; view = nz; counted = ct ∙ ap (λ (k : ℕ). Some k) (sym s.2); reg = h.registry s.0 s.1; last_at = sym la ∙ ap (at_place w.log.order) (sym s.2); known = λ a f st id le. h.outcome a f st id (omega (arith, le, done_at x s.0 s.1)) }) nl (joined x o.count o.last (record x.join { stage = stage.Ready })) eq))
+      says_keeps w n x s.0 o.last x.outcome j at (record { unready = nr; view = nz; counted = ct ∙ ap (λ (k : ℕ). Some k) (sym s.2); reg = h.prefix.registry s.0 s.1; last_at = sym la ∙ ap (at_place w.log.order) (sym s.2); known = λ a f st id le. h.outcome a f st id (omega (arith, le, done_at x s.0 s.1)) }) nl (joined x o.count o.last (record x.join { stage = stage.Ready })) eq))
       (λ z r k kn next pl.
       let s = known_is x k kn in
       let e = place_is o.last o.count pl in
@@ -254,7 +242,7 @@ module _ {M : Machine} where
         unready = nr;
         view = nz;
         counted = ct ∙ ap (λ (k : ℕ). Some k) (sym dn);
-        reg = ap (λ (g : M.Registry). (M.apply e.0 g).0) (h.registry s.0 s.1) ∙ sym (fold_next M w.log.cap w.log.order s.0.done e.0 here);
+        reg = ap (λ (g : M.Registry). (M.apply e.0 g).0) (h.prefix.registry s.0 s.1) ∙ sym (fold_next M w.log.cap w.log.order s.0.done e.0 here);
         last_at = sym la ∙ ap (at_place w.log.order) (sym dn);
         known = next_known w n x e.0 s.0 j at s.1 here;
       }) nl y eq in
@@ -272,10 +260,10 @@ module _ {M : Machine} where
       (λ k e. let q : 0 ≡ k = cc in (o, refl, subst (λ (g : ℕ). [] ≡ take g (state_bytes w o.count)) q refl))))
       (λ b.
       let pulls_ : x.join.stage ≡ stage.Pulling got = has_bytes x.join b in
-      let q = h.pulled got pulls_ in
+      let q = h.prefix.pulled got pulls_ in
       still_keeps w n x (stage.Pulling got) x.offer x.bytes got j at nz nr refl
-      (λ a e. let p = h.pull a e in (p.1, p.2, p.3, p.4, h.pulling a e))
-      (λ k e. h.pulled k (pulls_ ∙ e)))))
+      (λ a e. let p = h.prefix.pull a e in (p.1, p.2, p.3, p.4, h.local.pulling a e))
+      (λ k e. h.prefix.pulled k (pulls_ ∙ e)))))
 
   pub on_offer_keeps : (w : World M) (n : ℕ) (x : NodeState M) (from c cap : ℕ) (last : Option Entry) → Invariant w → w.nodes n ≡ Some x → x.join.view.number ≢ 0 → MsgOk w x.join.view from n (Offer c cap last) → Invariant (absorbed n (on_offer x from (record { count = c; cap = cap; last = last })) w)
   on_offer_keeps w n x from c cap last j at nz ok =
@@ -301,10 +289,10 @@ module _ {M : Machine} where
       (λ g.
       let a = and_true (joining.locks x.join) (not (joining.is_open x.join)) g in
       let shut : joining.is_open x.join ≡ false = not_true (joining.is_open x.join) a.1 in
-      let ct : w.log.count x.join.view.number ≡ Some (done_of x) = h.closed (lr a.0) a.0 shut in
+      let ct : w.log.count x.join.view.number ≡ Some (done_of x) = h.prefix.closed (lr a.0) a.0 shut in
       let dn : done_of x ≡ r.done = done_at x r some in
       let bs : List ℕ = M.encode r.registry in
-      let same : bs ≡ state_bytes w (done_of x) = ap M.encode (h.registry r some ∙ ap (registry_at M w.log.cap w.log.order) (sym dn)) in
+      let same : bs ≡ state_bytes w (done_of x) = ap M.encode (h.prefix.registry r some ∙ ap (registry_at M w.log.cap w.log.order) (sym dn)) in
       option_cases P (joining.piece_length (length bs) offset) (nothing x) (λ count. tells x from (piece bs offset count))
       (λ none. stay_keeps w n x j at)
       (λ count some_. stay_sends w n x from (piece bs offset count) j at (told w n x x (Send (packet x from (piece bs offset count)) ∷ []) from (piece bs offset count) h nz refl refl (
@@ -318,12 +306,12 @@ module _ {M : Machine} where
   pub whole_keeps : IsMachine M → (w : World M) (n : ℕ) (x : NodeState M) (o : Offering) (bs : List ℕ) → Invariant w → Fitting w → w.nodes n ≡ Some x → x.join.view.number ≢ 0 → joining.is_ready x.join ≡ false → x.offer ≡ Some o → bs ≡ state_bytes w o.count → Invariant (absorbed n (takes_state x bs (record x.join { stage = stage.Taking })) w)
   whole_keeps law w n x o bs j fi at nz nr of eq =
       let h : NodeOk w n x = j.nodes n x at in
-      let p = h.pull o of in
+      let p = h.prefix.pull o of in
       let g : M.Registry = registry_at M w.log.cap w.log.order o.count in
       let dec : M.decode o.cap bs ≡ Some g = (λ i. M.decode (p.2 i) (eq i)) ∙ law.reads_back w.log.cap (take o.count w.log.order) fi.log.is_cap (all_take M.Fits o.count w.log.order fi.log.records) in
       let s : Replica M = record { registry = g; done = o.count } in
       let y : NodeState M = joined (with_replica x g o.count) o.count o.last (record x.join { stage = stage.Ready }) in
-      let keeps : Invariant (absorbed n (says_ready y) w) = says_keeps w n x s o.last x.outcome j at (record { unready = nr; view = nz; counted = p.1; reg = refl; last_at = p.3; known = far_known w n x o.count j at nz p.1 (h.pulling o of) }) p.4 y refl in
+      let keeps : Invariant (absorbed n (says_ready y) w) = says_keeps w n x s o.last x.outcome j at (record { unready = nr; view = nz; counted = p.1; reg = refl; last_at = p.3; known = far_known w n x o.count j at nz p.1 (h.local.pulling o of) }) p.4 y refl in
       let tr = taken_ready x.join stage.Taking p.4 in
       let taking : ReconcileState = record x.join { stage = stage.Taking } in
       let D : Option M.Registry → Out M = λ d. elim d [
@@ -352,13 +340,13 @@ module _ {M : Machine} where
       (stay_keeps w n x j at)
       (λ e lt.
       let nr : joining.is_ready x.join ≡ false = pulling_unready x.join offset e in
-      let q = h.pulled offset e in
+      let q = h.prefix.pulled offset e in
       still_keeps w n x (stage.Pulling (offset + length bytes)) x.offer (x.bytes ++ bytes) (offset + length bytes) j at nz nr refl
-      (λ o f. let p = h.pull o f in (p.1, p.2, p.3, p.4, h.pulling o f))
-      (λ got f. let g : offset + length bytes ≡ got = cc in (q.0, q.1, more q.0 (h.pull q.0 q.1).1 q.2 ∙ ap (λ (k : ℕ). take k (state_bytes w q.0.count)) g)))
+      (λ o f. let p = h.prefix.pull o f in (p.1, p.2, p.3, p.4, h.local.pulling o f))
+      (λ got f. let g : offset + length bytes ≡ got = cc in (q.0, q.1, more q.0 (h.prefix.pull q.0 q.1).1 q.2 ∙ ap (λ (k : ℕ). take k (state_bytes w q.0.count)) g)))
       (λ e le.
       let nr : joining.is_ready x.join ≡ false = pulling_unready x.join offset e in
-      let q = h.pulled offset e in
-      let ct = (h.pull q.0 q.1).1 in
+      let q = h.prefix.pulled offset e in
+      let ct = (h.prefix.pull q.0 q.1).1 in
       let all : take (offset + length bytes) (state_bytes w q.0.count) ≡ state_bytes w q.0.count = take_all (offset + length bytes) (state_bytes w q.0.count) (omega (arith, ok.2, ap (λ (c : ℕ). length (state_bytes w c)) (count_is q.0 ct))) in
       whole_keeps law w n x q.0 (x.bytes ++ bytes) j fi at nz nr q.1 (more q.0 ct q.2 ∙ all))

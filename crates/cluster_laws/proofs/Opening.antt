@@ -26,7 +26,7 @@ use Rattle.cluster_rules.specs.Worlds.{Point, World, acked, put, sent}
 use Rattle.cluster_laws.proofs.History.{absorbed, answered}
 use Rattle.cluster_laws.proofs.Inv.{AckOk, Has, Invariant, MemberOk, MsgOk, NodeOk, Owner, OwnerOk, Pooled, WasReady, at_head, waits}
 use Rattle.cluster_laws.proofs.Stable.{Ext, Grown, grown_refl, pooled, was_ready}
-use Rattle.cluster_laws.proofs.Moves.{quiet_points, at_self, ext_absorb, move_keeps, moved, node_in, none_acked, none_told, owner_moves, put_cases, stay_keeps, stay_sends, stay_tells, told}
+use Rattle.cluster_laws.proofs.Moves.{quiet_points, at_self, ext_absorb, move_keeps, moved, node_in, none_acked, none_told, owner_moves, put_cases, staged_ok, stay_keeps, stay_sends, stay_tells, told}
 use Rattle.cluster_laws.proofs.Applying.{and_true, length_some, eq_true, locker_not}
 use Rattle.view_reconcile.proofs.Cases.{opened_cases, readied_cases}
 use Rattle.view_reconcile.proofs.Marking.{each_counts, marked_says}
@@ -105,7 +105,7 @@ module _ {M : Machine} where
   -- the view that an owner opens has every record at every member, and no waiting head's
   pub open_member : (w : World M) (n : ℕ) (x : NodeState M) → Invariant w → OwnerOk w n x → joining.is_open x.join ≡ false → AllWere w x → (m : ℕ) (b : NodeState M) → w.nodes m ≡ Some b → inc_of x.join.view.members m ≡ b.join.inc → MemberOk w.log x.core.lock m b
   open_member w n x j k shut were m b at i =
-      let pos : 0 < inc_of x.join.view.members m = subst (λ (t : ℕ). 0 < t) (sym i) (j.nodes m b at).positive in
+      let pos : 0 < inc_of x.join.view.members m = subst (λ (t : ℕ). 0 < t) (sym i) (j.nodes m b at).local.positive in
       let r = were m pos in
       let c : Some r.count ≡ Some (length w.log.order) = sym r.counted ∙ (k.closed shut).1 in
       let ce : r.count ≡ length w.log.order = cc in
@@ -122,49 +122,37 @@ module _ {M : Machine} where
       let h : NodeOk w n x = j.nodes n x at in
       let y : NodeState M = opened_node x in
       let gr : Grown x y = record { inc = refl; done = omega arith; passed = omega arith; asks = omega arith; view = omega arith; settled = λ k e. inl e; waits = λ e q z. z } in
-      let not_open : joining.is_open x.join ≡ true → ⊥ = λ e. locker_not (joining.is_open x.join) e shut in
       let not_unready : joining.is_ready x.join ≡ false → ⊥ = λ e. locker_not (joining.is_ready x.join) rd e in
       move_keeps w n x y es j at (record {
         grown = gr;
-        node = node_in w n x y es j at gr (record {
-          node = h.node;
-          inc = h.inc;
-          positive = h.positive;
-          core_node = h.core_node;
-          core_members = h.core_members;
-          entries = h.entries;
-          view = h.view;
-          peopled = h.peopled;
-          within = h.within;
-          registry = h.registry;
-          last = h.last;
-          below = h.below;
-          marked = h.marked;
-          idle = h.idle;
-          waiting = h.waiting;
-          waiting_doubt = h.waiting_doubt;
-          near_head = h.near_head;
-          near_doubt = h.near_doubt;
-          full_state = h.full_state;
-          pulling = h.pulling;
-          outcome = h.outcome;
-          queued = h.queued;
-          all_requests = h.all_requests;
-          finished = h.finished;
-          core_open = refl;
-          unsettled = λ c. us;
-          ready_view = λ c. h.ready_view rd;
-          ready_state = λ c. h.ready_state rd;
-          unready = λ c i b. absurd (cc);
-          pull = λ o e. absurd (not_unready ((h.pull o e).0));
-          pulled = λ g e. absurd (cc);
-          closed = λ a b c. absurd (cc);
-          lock = λ l e. absurd (not_open ((h.lock l e).0));
-          all_ready = λ c. were;
-          settled = λ k e. let g = h.settled k e in (g.0, g.1, g.2, g.3, g.4, λ a. g.5 rd);
-          spreading = λ s e. absurd (not_open ((h.spreading s e).3));
-          behind = λ r c wt st id a. h.behind r c wt st id rd;
-        });
+        node = node_in w n x y es j at gr (staged_ok w n x stage.Open true x.offer x.bytes h shut
+            (record {
+              node = h.local.node;
+              positive = h.local.positive;
+              core_node = h.local.core_node;
+              core_members = h.local.core_members;
+              entries = h.local.entries;
+              peopled = h.local.peopled;
+              idle = h.local.idle;
+              full_state = h.local.full_state;
+              pulling = h.local.pulling;
+              core_open = refl;
+              unsettled = λ c. us;
+              ready_view = λ c. h.local.ready_view rd;
+            })
+            (record {
+              within = h.prefix.within;
+              registry = h.prefix.registry;
+              last = h.prefix.last;
+              below = h.prefix.below;
+              ready_state = λ c. h.prefix.ready_state rd;
+              unready = λ c i b. absurd (cc);
+              pull = λ o e. absurd (not_unready ((h.prefix.pull o e).0));
+              pulled = λ g e. absurd (cc);
+              closed = λ a b c. absurd (cc);
+            })
+            (λ c. were)
+            (λ c. rd));
         messages = ms;
         acks = λ k v p s. none_acked (λ (a b : ℕ). AckOk (moved w n y es) a b) k v p (subst (λ (l : List (ℕ × ℕ)). slice_get l k ≡ Some (v, p)) na s);
         points = quiet_points w n y es na;
@@ -194,14 +182,14 @@ module _ {M : Machine} where
       stay_tells w n x es j at (asks_acks x next) (asks_told (λ (p : Sent). Pooled (moved w n x es) p) x next (λ req u us some e.
       let full : x.core.queue ≢ [] = λ z. absurd (let y : ◌≡◌ {A = List Update} (u ∷ us) [] = sym e ∙ z in cc) in
       let same : req ≡ x.core.passed + 1 = rq req some in
-      ask_told w n x x es req u j at (grown_refl x) refl refl refl rd (omega (arith, full_asks x full)) (head_requested w n x u us req h e same) (λ r c st id i. h.behind r c (full, h.unsettled op) st (record { node = id.node; inc = id.inc; req = id.req ∙ same }) rd i)))
+      ask_told w n x x es req u j at (grown_refl x) refl refl refl rd (omega (arith, full_asks x full)) (head_requested w n x u us req h e same) (λ r c st id i. h.behind r c (full, h.local.unsettled op) st (record { node = id.node; inc = id.inc; req = id.req ∙ same }) rd i)))
 
   -- what a settled head has, where all members were ready
   pub settled_done : (w : World M) (n : ℕ) (x : NodeState M) (k : ℕ) → Invariant w → w.nodes n ≡ Some x → joining.is_ready x.join ≡ true → AllWere w x → x.core.queue ≢ [] → x.settled ≡ Some k → (r : Entry) × Done w n x r × (r.place ≡ k)
   settled_done w n x k j at rd were full set_ =
       let h : NodeOk w n x = j.nodes n x at in
       let t = h.settled k set_ in
-      let c = h.ready_state rd in
+      let c = h.prefix.ready_state rd in
       let low : k ≤ c.1 = t.5 rd c.1 c.2 in (
         t.0,
         record {
@@ -231,7 +219,7 @@ module _ {M : Machine} where
 
   -- a message of a node, as its world already has it
   pub told_here : (w : World M) (n : ℕ) (x : NodeState M) (to : ℕ) (b : Body) → NodeOk w n x → x.join.view.number ≢ 0 → MsgOk w x.join.view n to b → Pooled w (packet x to b)
-  told_here w n x to b h nz ok = record { view = x.join.view; declared = (h.view nz).0; number = refl; ok = subst (λ (m : ℕ). MsgOk w x.join.view m to b) (sym h.node) ok }
+  told_here w n x to b h nz ok = record { view = x.join.view; declared = (h.view nz).0; number = refl; ok = subst (λ (m : ℕ). MsgOk w x.join.view m to b) (sym h.local.node) ok }
 
   pub pooled_on : (w w' : World M) (p : Sent) → Invariant w → Ext w w' → Pooled w p → Pooled w' p
   pooled_on w w' p j e = pooled w w' p e (λ r s. (j.log.asked r s).1) (λ v c f. (j.log.counts v c f).0)
@@ -292,7 +280,7 @@ module _ {M : Machine} where
       let open_first : x.settled ≡ None → Invariant (moved w n y es) = λ us. opens_first w n x es j at rd shut us were na ms in
       core_opened_cases P x.core x.settled
       (λ e. (
-        subst (λ (v : World M). Invariant v) (two_moves w n y es (nothing y)) (stay_keeps (moved w n y es) n y (open_first (h.idle e).1) (moved_there w n y es)),
+        subst (λ (v : World M). Invariant v) (two_moves w n y es (nothing y)) (stay_keeps (moved w n y es) n y (open_first (h.local.idle e).1) (moved_there w n y es)),
         inl (still y (es ++ []) (ap acked (append-nil es) ∙ na)),
       ))
       (λ some none.
@@ -307,7 +295,7 @@ module _ {M : Machine} where
   pub was_ready_here : (w : World M) (n : ℕ) (x : NodeState M) → Invariant w → w.nodes n ≡ Some x → joining.is_ready x.join ≡ true → WasReady w n x.join.inc x.join.view.number
   was_ready_here w n x j at rd =
       let h : NodeOk w n x = j.nodes n x at in
-      let c = h.ready_state rd in
+      let c = h.prefix.ready_state rd in
       let self : (P : NodeState M → Type 0) → P x → (z : NodeState M) → w.nodes n ≡ Some z → P z = λ P p z e. let q : Some x ≡ Some z = sym at ∙ e in let g : x ≡ z = cc in subst P g p in
       record {
         count = c.1;
@@ -315,7 +303,7 @@ module _ {M : Machine} where
         reached = record { started = omega (arith, h.inc); done = λ z e same. self (λ (t : NodeState M). c.1 ≤ done_of t) c.3 z e };
         clear = record {
           started = omega (arith, h.inc);
-          within = omega (arith, c.3, h.within);
+          within = omega (arith, c.3, h.prefix.within);
           clear = λ z r e same wt s id. self (λ (t : NodeState M). waits t → Has r n x.join.inc (at_head t) → c.1 < r.place) (λ a b. h.behind r c.1 a s b rd c.2) z e wt id;
         };
       }
@@ -331,38 +319,29 @@ module _ {M : Machine} where
       move_keeps w n x y [] j at (record {
         grown = gr;
         node = node_in w n x y [] j at gr (record {
-          node = h.node;
+          local = h.local;
+          prefix = record {
+            within = h.prefix.within;
+            registry = h.prefix.registry;
+            last = h.prefix.last;
+            ready_state = h.prefix.ready_state;
+            below = h.prefix.below;
+            unready = h.prefix.unready;
+            closed = h.prefix.closed;
+            pull = h.prefix.pull;
+            pulled = h.prefix.pulled;
+          };
           inc = h.inc;
-          positive = h.positive;
-          core_node = h.core_node;
-          core_members = h.core_members;
-          core_open = h.core_open;
-          entries = h.entries;
           view = h.view;
-          peopled = h.peopled;
-          ready_view = h.ready_view;
-          within = h.within;
-          registry = h.registry;
-          last = h.last;
-          ready_state = h.ready_state;
-          below = h.below;
-          unready = h.unready;
-          pull = h.pull;
-          pulled = h.pulled;
-          closed = h.closed;
           lock = h.lock;
           all_ready = h.all_ready;
-          idle = h.idle;
           settled = h.settled;
-          unsettled = h.unsettled;
           spreading = h.spreading;
           waiting = h.waiting;
           waiting_doubt = h.waiting_doubt;
           behind = h.behind;
           near_head = h.near_head;
           near_doubt = h.near_doubt;
-          full_state = h.full_state;
-          pulling = h.pulling;
           outcome = h.outcome;
           queued = h.queued;
           all_requests = h.all_requests;
@@ -384,12 +363,12 @@ module _ {M : Machine} where
   all_were w n x j at e =
       let h : NodeOk w n x = j.nodes n x at in
       let a = and_true (joining.is_ready x.join) (joining.all_counted x.join) e in
-      let here = (h.view (h.ready_view a.0)).1 in (
+      let here = (h.view (h.local.ready_view a.0)).1 in (
         a.0,
         λ m pos. ⊎_elim
             (λ (c : joining.is_marked x.join m ≡ true). h.marked m c pos)
             (λ (c : (nat_eq m x.join.node && joining.is_ready x.join) ≡ true).
-            let me : n ≡ m = sym (eq_true m x.join.node (and_true (nat_eq m x.join.node) (joining.is_ready x.join) c).0 ∙ h.node) in
+            let me : n ≡ m = sym (eq_true m x.join.node (and_true (nat_eq m x.join.node) (joining.is_ready x.join) c).0 ∙ h.local.node) in
             let was : WasReady w n (inc_of x.join.view.members n) x.join.view.number = subst (λ (i : ℕ). WasReady w n i x.join.view.number) (sym here) (was_ready_here w n x j at a.0) in
             subst (λ (t : ℕ). WasReady w t (inc_of x.join.view.members t) x.join.view.number) me was)
             (or_true (joining.is_marked x.join m) (nat_eq m x.join.node && joining.is_ready x.join) (each_counts x.join m a.1 pos)),
@@ -403,7 +382,7 @@ module _ {M : Machine} where
       let z : NodeState M = record x { join = record x.join { stage = stage.Open } } in
       let es : List Effect = Opened x.join.view.number ∷ to_each z OpenView (spread_of x.join.view.members) in
       opens_keeps w n x es j at a.0 shut a.1 (no_acks z OpenView (spread_of x.join.view.members))
-      (each_to (λ (p : Sent). Pooled w p) z OpenView (spread_of x.join.view.members) (λ to. told_here w n x to OpenView h (h.ready_view a.0) a.1))
+      (each_to (λ (p : Sent). Pooled w p) z OpenView (spread_of x.join.view.members) (λ to. told_here w n x to OpenView h (h.local.ready_view a.0) a.1))
 
   pub on_ready_keeps : (w : World M) (n : ℕ) (x : NodeState M) (from : ℕ) → Invariant w → w.nodes n ≡ Some x → x.join.view.number ≢ 0 → MsgOk w x.join.view from n Ready → Good w n x (on_ready x from)
   on_ready_keeps w n x from j at nz ok =

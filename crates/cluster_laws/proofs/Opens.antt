@@ -131,7 +131,7 @@ module _ {M : Machine} where
   -- in a locker's open view each member that stands in it is ready
   ready_of : (w : World M) (n m : ℕ) (x y : NodeState M) → Invariant w → Joined w → w.nodes n ≡ Some x → w.nodes m ≡ Some y → joining.locks x.join ≡ true → joining.is_open x.join ≡ true → y.join.view ≡ x.join.view → y.join.inc ≡ inc_of x.join.view.members m → joining.is_ready y.join ≡ true
   ready_of w n m x y inv j xat yat lk op vw ic =
-      let pos : 0 < inc_of x.join.view.members m = subst (λ (a : ℕ). 0 < a) ic (inv.nodes m y yat).positive in
+      let pos : 0 < inc_of x.join.view.members m = subst (λ (a : ℕ). 0 < a) ic (inv.nodes m y yat).local.positive in
       ((j.opened n x m xat lk op pos).here y yat ic).1 (ap (λ (t : View). t.number) vw)
 
   abbrev pub open_at : World M → ℕ → Bool
@@ -186,16 +186,16 @@ module _ {M : Machine} where
         let xat : w.nodes L ≡ Some x = o.1.node in
         let xk : NodeOk w L x = h.sound.inv.nodes L x xat in
         let xop : joining.is_open x.join ≡ true = sym (shown_at (λ (t : NodeState M). joining.is_open t.join) false w L x xat) ∙ lop in
-        let lks : joining.locks x.join ≡ true = ap (λ (t : View). is_locker t.members x.join.node) o.1.view ∙ ap (λ (a : ℕ). is_locker v.members a) xk.node ∙ locker_locks v.members ll in
+        let lks : joining.locks x.join ≡ true = ap (λ (t : View). is_locker t.members x.join.node) o.1.view ∙ ap (λ (a : ℕ). is_locker v.members a) xk.local.node ∙ locker_locks v.members ll in
         let rd : joining.is_ready y.join ≡ true = ready_of w L m x y h.sound.inv h.sound.joins xat yat lks xop (yr.view ∙ sym o.1.view) (yr.inc ∙ ap (λ (t : View). inc_of t.members m) (sym o.1.view)) in
         let apart : m ≢ L = λ e. false_true (sym shut ∙ sym (shown_at (λ (t : NodeState M). joining.is_open t.join) false w m y yat) ∙ ap (λ (a : ℕ). open_at w a) e ∙ lop) in
-        let nlk : joining.locks y.join ≡ false = ap (λ (t : View). is_locker t.members y.join.node) yr.view ∙ ap (λ (a : ℕ). is_locker v.members a) yk.node ∙ other v.members m apart in
+        let nlk : joining.locks y.join ≡ false = ap (λ (t : View). is_locker t.members y.join.node) yr.view ∙ ap (λ (a : ℕ). is_locker v.members a) yk.local.node ∙ other v.members m apart in
         let tk = ready_tells y nlk rd shut in
         let es1 : List Effect = (tick y).effects in
         let u1 : World M = turned w w.log m y es1 in
         move law w v (Tick m) m y y es1 (λ u. Wider v w m u) refl h (tick_is w m y yat) yat refl refl
         (λ h1.
-        let hd1 : Held u1 (mail v m L Ready) = sends w v w.log m y es1 m (locker_at y) L tk.0 Ready yr.view yk.node (ap (λ (t : View). locker_of t.members) yr.view) tk.1 in
+        let hd1 : Held u1 (mail v m L Ready) = sends w v w.log m y es1 m (locker_at y) L tk.0 Ready yr.view yk.local.node (ap (λ (t : View). locker_of t.members) yr.view) tk.1 in
         let n1 : Near w u1 = near_turned w w m y y es1 nr yat (omega arith) in
         let x1 : u1.nodes L ≡ Some x = if_cases (λ (t : Option (NodeState M)). t ≡ Some x) (nat_eq L m) _ _ (λ q. absurd (apart (sym (eq_true L m q)))) (λ q. xat) in
         let es2 : List Effect = Send (packet x m OpenView) ∷ [] in
@@ -205,7 +205,7 @@ module _ {M : Machine} where
         let u2 : World M = turned u1 u1.log L x es2 in
         move law u1 v (Deliver hd1.at Written) L x x es2 (λ u. Wider v w m u) refl h1 (still_is u1 (mail v m L Ready) x (becomes x es2) hd1 x1 (heard u1 v x m L Ready h1 lm ll x1 ∙ ap (λ (r : ReconcileState × Step). unlogged (marks_ready x r)) ra)) x1 refl refl
         (λ h2.
-        let hd2 : Held u2 (mail v L m OpenView) = sends u1 v u1.log L x es2 L m m 0 OpenView o.1.view xk.node refl refl in
+        let hd2 : Held u2 (mail v L m OpenView) = sends u1 v u1.log L x es2 L m m 0 OpenView o.1.view xk.local.node refl refl in
         let n2 : Near w u2 = near_turned w u1 L x x es2 n1 x1 (omega arith) in
         let y2 : u2.nodes m ≡ Some y = if_cases (λ (t : Option (NodeState M)). t ≡ Some y) (nat_eq m L) _ _ (λ q. absurd (apart (eq_true m L q))) (λ q. put_self w.nodes m (Some y)) in
         let z : NodeState M = record y { join = record y.join { stage = stage.Open } } in
@@ -297,7 +297,7 @@ module _ {M : Machine} where
           stand = h1;
           near = near_turned w0 w m y z es nr yat le;
           locker = put_other w.nodes m (locker_of v.members) (Some z) x apart xat;
-          ready = sends w v w.log m z es m (locker_at z) (locker_of v.members) 0 Ready (zv ∙ yr.view) (zn ∙ yk.node) (ap (λ (t : View). locker_of t.members) (zv ∙ yr.view)) refl;
+          ready = sends w v w.log m z es m (locker_at z) (locker_of v.members) 0 Ready (zv ∙ yr.view) (zn ∙ yk.local.node) (ap (λ (t : View). locker_of t.members) (zv ∙ yr.view)) refl;
         }))
 
     -- the state that the locker sends is the one that was offered
@@ -307,12 +307,12 @@ module _ {M : Machine} where
         let xr = runs_in w v L x h ll xat in
         let yr = runs_in w v m y h lm yat in
         let xk : NodeOk w L x = h.sound.inv.nodes L x xat in
-        let p = (h.sound.inv.nodes m y yat).pull o of in
-        let lks : joining.locks x.join ≡ true = ap (λ (t : View). is_locker t.members x.join.node) xr.view ∙ ap (λ (a : ℕ). is_locker v.members a) xk.node ∙ locker_locks v.members ll in
+        let p = (h.sound.inv.nodes m y yat).prefix.pull o of in
+        let lks : joining.locks x.join ≡ true = ap (λ (t : View). is_locker t.members x.join.node) xr.view ∙ ap (λ (a : ℕ). is_locker v.members a) xk.local.node ∙ locker_locks v.members ll in
         let rd : joining.is_ready x.join ≡ true = h.sound.lockers L x xat lks (λ e. zero_view (h.shape.numbered) (ap (λ (t : View). t.number) (sym xr.view) ∙ e)) in
-        let ct : Some (done_of x) ≡ Some o.count = sym (xk.closed rd lks shut) ∙ ap w.log.count (ap (λ (t : View). t.number) (xr.view ∙ sym yr.view)) ∙ p.1 in
+        let ct : Some (done_of x) ≡ Some o.count = sym (xk.prefix.closed rd lks shut) ∙ ap w.log.count (ap (λ (t : View). t.number) (xr.view ∙ sym yr.view)) ∙ p.1 in
         let dn : done_of x ≡ o.count = cc in
-        ap M.encode (xk.registry r rep ∙ ap (registry_at M w.log.cap w.log.order) (sym (done_at x r rep) ∙ dn))
+        ap M.encode (xk.prefix.registry r rep ∙ ap (registry_at M w.log.cap w.log.order) (sym (done_at x r rep) ∙ dn))
 
     -- one piece
     pull_step : (v : View) (w0 w : World M) (m : ℕ) (x y : NodeState M) (got : ℕ) (r : Replica M) → Stand w v → Near w0 w → 0 < inc_of v.members m → 0 < inc_of v.members (locker_of v.members) → (locker_of v.members ≡ m → ⊥) → w.nodes (locker_of v.members) ≡ Some x → joining.is_open x.join ≡ false → x.replica ≡ Some r → w.nodes m ≡ Some y → y.join.stage ≡ stage.Pulling got → got ≤ length (M.encode r.registry) → Held w (mail v m (locker_of v.members) (Need got))
@@ -326,7 +326,7 @@ module _ {M : Machine} where
         let bs : List ℕ = take c (drop got S) in
         let xr = runs_in w v L x h ll xat in
         let xk : NodeOk w L x = h.sound.inv.nodes L x xat in
-        let lks : joining.locks x.join ≡ true = ap (λ (t : View). is_locker t.members x.join.node) xr.view ∙ ap (λ (a : ℕ). is_locker v.members a) xk.node ∙ locker_locks v.members ll in
+        let lks : joining.locks x.join ≡ true = ap (λ (t : View). is_locker t.members x.join.node) xr.view ∙ ap (λ (a : ℕ). is_locker v.members a) xk.local.node ∙ locker_locks v.members ll in
         let F : Option ℕ → Out M = λ o. elim o [ None ↦ nothing x | Some count ↦ tells x m (piece S got count) ] in
         let nd : on_need x m got ≡ tells x m (Piece total got bs) =
         ap (λ (o : Option (Replica M)). elim o [ None ↦ nothing x | Some r ↦ if joining.locks x.join && not (joining.is_open x.join) then sends_piece x m (M.encode r.registry) got else nothing x ]) rep
@@ -336,7 +336,7 @@ module _ {M : Machine} where
         let u1 : World M = turned w w.log L x es1 in
         move law w v (Deliver hd.at Written) L x x es1 (λ u. Told v w0 m x u) refl h (still_is w (mail v m L (Need got)) x (becomes x es1) hd xat (heard w v x m L (Need got) h lm ll xat ∙ ap (λ (o : Out M). unlogged o) nd)) xat refl refl
         (λ h1.
-        let hd1 : Held u1 (mail v L m (Piece total got bs)) = sends w v w.log L x es1 L m m 0 (Piece total got bs) xr.view xk.node refl refl in
+        let hd1 : Held u1 (mail v L m (Piece total got bs)) = sends w v w.log L x es1 L m m 0 (Piece total got bs) xr.view xk.local.node refl refl in
         let n1 : Near w0 u1 = near_turned w0 w L x x es1 nr xat (omega arith) in
         let x1 : u1.nodes L ≡ Some x = put_self w.nodes L (Some x) in
         let y1 : u1.nodes m ≡ Some y = put_other w.nodes L m (Some x) y (λ e. apart (sym e)) yat in
@@ -359,11 +359,11 @@ module _ {M : Machine} where
         let few : got + length bs < total = lt_true (got + length bs) total lt in
         move law u1 v (Deliver hd1.at Written) m y z es2 (λ u. Told v w0 m x u) refl h1 ev y1 refl refl (λ h2.
         again u2 z (length bs) (omega (arith, size, few)) few h2 (near_turned w0 u1 m y z es2 n1 y1 (omega arith)) (put_other u1.nodes m L (Some z) x apart x1) (put_self u1.nodes m (Some z)) refl
-        (sends u1 v u1.log m z es2 m (locker_at y) L 0 (Need (got + length bs)) yr.view yk.node (ap (λ (t : View). locker_of t.members) yr.view) refl)))
+        (sends u1 v u1.log m z es2 m (locker_at y) L 0 (Need (got + length bs)) yr.view yk.local.node (ap (λ (t : View). locker_of t.members) yr.view) refl)))
         (λ ge ev.
-        let q = yk.pulled got sg in
+        let q = yk.prefix.pulled got sg in
         let o : Offering = q.0 in
-        let p = yk.pull o q.1 in
+        let p = yk.prefix.pull o q.1 in
         let g : M.Registry = registry_at M u1.log.cap u1.log.order o.count in
         let Se : S ≡ state_bytes u1 o.count = state_sent v u1 m x y r o h1 lm ll x1 shut rep y1 q.1 in
         let le : total ≤ got + length bs = lt_false (got + length bs) total ge in
@@ -405,7 +405,7 @@ module _ {M : Machine} where
         let few : length z.core.queue ≤ length y.core.queue = let q : length z.core.queue ≡ length y.core.queue = ap (λ (c : CoreState). length c.queue) zc in omega (arith, q) in
         move law w v e m y z es (λ u. Told v w0 m x u) g h ev yat (ap (λ (t : ReconcileState). t.view) zj) (ap (λ (t : ReconcileState). t.inc) zj) (λ h1.
         pull_go (length (M.encode r.registry)) v w0 u m x z got r h1 (near_turned w0 w m y z es nr yat few) lm ll apart (put_other w.nodes m L (Some z) x apart xat) shut rep (put_self w.nodes m (Some z)) (ap (λ (t : ReconcileState). t.stage) zj) fit (omega arith)
-        (sends w v w.log m z es m (locker_at y) L 0 (Need got) (ap (λ (t : ReconcileState). t.view) zj ∙ yr.view) (ap (λ (t : ReconcileState). t.node) zj ∙ yk.node) (ap (λ (t : View). locker_of t.members) yr.view) refl))
+        (sends w v w.log m z es m (locker_at y) L 0 (Need got) (ap (λ (t : ReconcileState). t.view) zj ∙ yr.view) (ap (λ (t : ReconcileState). t.node) zj ∙ yk.local.node) (ap (λ (t : View). locker_of t.members) yr.view) refl))
 
     each_sent : (x : NodeState M) (b : Body) (ms : List Member) (j : ℕ) (t : Member) → slice_get ms j ≡ Some t → joining.waits_for x.join t.node ≡ true → (k : ℕ) × (slice_get (sent (offer_each x b ms)) k ≡ Some (packet x t.node b))
     each_sent x b [] j t e h = absurd (cc)
@@ -439,9 +439,9 @@ module _ {M : Machine} where
         let L : ℕ = locker_of v.members in
         let xr = runs_in w v L x h ll xat in
         let xk : NodeOk w L x = h.sound.inv.nodes L x xat in
-        let lks : joining.locks x.join ≡ true = ap (λ (t : View). is_locker t.members x.join.node) xr.view ∙ ap (λ (a : ℕ). is_locker v.members a) xk.node ∙ locker_locks v.members ll in
+        let lks : joining.locks x.join ≡ true = ap (λ (t : View). is_locker t.members x.join.node) xr.view ∙ ap (λ (a : ℕ). is_locker v.members a) xk.local.node ∙ locker_locks v.members ll in
         let rd : joining.is_ready x.join ≡ true = h.sound.lockers L x xat lks (λ e. zero_view (h.shape.numbered) (ap (λ (t : View). t.number) (sym xr.view) ∙ e)) in
-        let apart : L ≡ m → ⊥ = λ e. locker_not (joining.counts_ready x.join m) (or_right (joining.is_marked x.join m) (nat_eq m x.join.node && joining.is_ready x.join) (both (nat_eq m x.join.node) (joining.is_ready x.join) (eq_is m x.join.node (sym e ∙ sym xk.node)) rd)) nc in
+        let apart : L ≡ m → ⊥ = λ e. locker_not (joining.counts_ready x.join m) (or_right (joining.is_marked x.join m) (nat_eq m x.join.node && joining.is_ready x.join) (both (nat_eq m x.join.node) (joining.is_ready x.join) (eq_is m x.join.node (sym e ∙ sym xk.local.node)) rd)) nc in
         let ma = member_at v.members m lm in
         let tn : ma.1.node ≡ m = ma.3 in
         let inx : slice_get x.join.view.members ma.0 ≡ Some ma.1 = ap (λ (t : View). slice_get t.members ma.0) xr.view ∙ ma.2 in
@@ -454,18 +454,18 @@ module _ {M : Machine} where
         let b : Body = Offer (done_of x) (offered_cap x) x.last in
         let es1 : List Effect = (tick x).effects in
         let u1 : World M = turned w w.log L x es1 in
-        let rep = state_of x (xk.ready_state rd).0 in
+        let rep = state_of x (xk.prefix.ready_state rd).0 in
         let Q : World M → Type 0 = λ u. Told v w m x u in
         move law w v (Tick L) L x x es1 Q refl h (tick_is w L x xat) xat refl refl
         (λ h1.
-        let hd1 : Held u1 (mail v L m b) = sends w v w.log L x es1 L ma.1.node m tk.0 b xr.view xk.node tn tk.1 in
+        let hd1 : Held u1 (mail v L m b) = sends w v w.log L x es1 L ma.1.node m tk.0 b xr.view xk.local.node tn tk.1 in
         let n1 : Near w u1 = near_turned w w L x x es1 (near_self w) xat (omega arith) in
         let x1 : u1.nodes L ≡ Some x = put_self w.nodes L (Some x) in
         let yo = h1.member m lm in
         let y : NodeState M = yo.0 in
         let y1 : u1.nodes m ≡ Some y = yo.1.node in
         let yk : NodeOk u1 m y = h1.sound.inv.nodes m y y1 in
-        let nlk : joining.locks y.join ≡ false = ap (λ (t : View). is_locker t.members y.join.node) yo.1.view ∙ ap (λ (a : ℕ). is_locker v.members a) yk.node ∙ other v.members m (λ e. apart (sym e)) in
+        let nlk : joining.locks y.join ≡ false = ap (λ (t : View). is_locker t.members y.join.node) yo.1.view ∙ ap (λ (a : ℕ). is_locker v.members a) yk.local.node ∙ other v.members m (λ e. apart (sym e)) in
         let e : Event = Deliver hd1.at Written in
         let gd : (nat_eq L (locker_at y) && not (joining.locks y.join)) ≡ true = both (nat_eq L (locker_at y)) (not (joining.locks y.join)) (eq_is L (locker_at y) (ap (λ (t : View). locker_of t.members) (sym yo.1.view))) (ap not nlk) in
         let R : Out M = if joining.is_ready y.join then says_ready y else follows y o (joining.offered y.join o.count (place_of o.last) (known_done y)) in
@@ -498,7 +498,7 @@ module _ {M : Machine} where
         (λ b ev. pull_begins v w u1 m x y (record y { join = t; offer = Some o; bytes = [] }) got rep.0 e h1 n1 refl lm ll apart x1 shut rep.1 y1 ev tj refl (omega (arith, eq_true got 0 b)))
         (λ b ev.
         let pulling : y.join.stage ≡ stage.Pulling got = has_bytes y.join b in
-        let q = yk.pulled got pulling in
+        let q = yk.prefix.pulled got pulling in
         let fit : got ≤ length (M.encode rep.0.registry) = fits_in (M.encode rep.0.registry) got (ap (λ (l : List ℕ). length (take got l)) (state_sent v u1 m x y rep.0 q.0 h1 lm ll x1 shut rep.1 y1 q.1) ∙ ap (λ (l : List ℕ). length l) (sym q.2) ∙ (h1.sound.cores m y y1).1 got pulling) in
         pull_begins v w u1 m x y (record y { join = t }) got rep.0 e h1 n1 refl lm ll apart x1 shut rep.1 y1 ev tj refl fit)
         ev)
@@ -526,7 +526,7 @@ module _ {M : Machine} where
         let xat : w.nodes L ≡ Some x = t.locker in
         let xr = runs_in w v L x h ll xat in
         let xk : NodeOk w L x = h.sound.inv.nodes L x xat in
-        let lks : joining.locks x.join ≡ true = ap (λ (t : View). is_locker t.members x.join.node) xr.view ∙ ap (λ (a : ℕ). is_locker v.members a) xk.node ∙ locker_locks v.members ll in
+        let lks : joining.locks x.join ≡ true = ap (λ (t : View). is_locker t.members x.join.node) xr.view ∙ ap (λ (a : ℕ). is_locker v.members a) xk.local.node ∙ locker_locks v.members ll in
         let en = h.sound.joins.entries L x xat in
         let inx : (n : ℕ) → 0 < inc_of v.members n → 0 < inc_of x.join.view.members n = λ n lt. subst (λ (t : View). 0 < inc_of t.members n) (sym xr.view) lt in
         let e : Event = Deliver t.ready.at Written in
@@ -626,7 +626,7 @@ module _ {M : Machine} where
             let z : NodeState M = wt.state in
             let zr = runs_in u v L z s ll wt.at in
             let zk : NodeOk u L z = s.sound.inv.nodes L z wt.at in
-            let lks : joining.locks z.join ≡ true = ap (λ (t : View). is_locker t.members z.join.node) zr.view ∙ ap (λ (a : ℕ). is_locker v.members a) zk.node ∙ locker_locks v.members ll in
+            let lks : joining.locks z.join ≡ true = ap (λ (t : View). is_locker t.members z.join.node) zr.view ∙ ap (λ (a : ℕ). is_locker v.members a) zk.local.node ∙ locker_locks v.members ll in
             let rd : joining.is_ready z.join ≡ true = s.sound.lockers L z wt.at lks (λ e. zero_view (s.shape.numbered) (ap (λ (t : View). t.number) (sym zr.view) ∙ e)) in
             let no : joining.all_counted z.join ≡ false = s.sound.joins.closed L z wt.at (subst (λ (t : View). Ascend 0 t.members) (sym zr.view) s.shape.ascending) lks rd wt.shut in
             let yes : joining.all_counted z.join ≡ true = ap (λ (t : View). list_all (λ (m : Member). joining.counts_ready z.join m.node) t.members) zr.view ∙ each_all (λ (a : ℕ). joining.counts_ready z.join a) v.members wt.all in

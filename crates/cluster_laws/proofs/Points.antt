@@ -13,5 +13,5 @@ module _ {M : Machine} where
   pub done_outcome : (w : World M) (n : ℕ) (x : NodeState M) (r : Entry) → Invariant w → w.nodes n ≡ Some x → Done w n x r → x.outcome ≡ Some (outcome_at M w.log.cap w.log.order (r.place - 1) r)
   done_outcome w n x r j at d =
       let h : NodeOk w n x = j.nodes n x at in
-      let here : inc_of x.join.view.members n ≡ x.join.inc = (h.view (h.ready_view d.ready)).1 in
-      h.outcome r d.full d.stands d.id ((d.members.each n x.join.inc here h.positive).done x at refl)
+      let here : inc_of x.join.view.members n ≡ x.join.inc = (h.view (h.local.ready_view d.ready)).1 in
+      h.outcome r d.full d.stands d.id ((d.members.each n x.join.inc here h.local.positive).done x at refl)

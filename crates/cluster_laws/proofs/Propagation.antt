@@ -206,8 +206,8 @@ module _ {M : Machine} where
       ap (λ (k : Option Lock). elim k [ None ↦ false | Some l ↦ nat_eq l.node m && nat_eq l.req req ]) xl
       ∙ both (nat_eq l.node m) (nat_eq l.req req) (eq_is l.node m ln) (eq_is l.req req lr) in
       let lks : updating.locks x.core ≡ true =
-      ap (λ (ms : List Member). is_locker ms x.core.node) (nk.core_members ∙ ap (λ (t : View). t.members) o.1.view)
-      ∙ ap (λ (a : ℕ). is_locker v.members a) nk.core_node ∙ locker_locks v.members ll in
+      ap (λ (ms : List Member). is_locker ms x.core.node) (nk.local.core_members ∙ ap (λ (t : View). t.members) o.1.view)
+      ∙ ap (λ (a : ℕ). is_locker v.members a) nk.local.core_node ∙ locker_locks v.members ll in
       let rs : updating.released x.core m req ≡ (record x.core { lock = None }, decision.Free) = ap (λ (b : Bool). if b then (record x.core { lock = None }, decision.Free) else (x.core, decision.Nothing)) (both (updating.locks x.core) (updating.is_held x.core m req) lks held) in
       let rl : (updating.released x.core m req).0 ≡ record x.core { lock = None } = ap (λ (t : CoreState × Decision). t.0) rs in
       let r : receive x (mail v m L (Release req)) w.log.held Written ≡ unlogged (becomes y []) = heard w v x m L (Release req) h lm ll at ∙ ap (λ (c : CoreState). unlogged (nothing (record x { core = c }))) rl in
@@ -242,7 +242,7 @@ module _ {M : Machine} where
       go_to law w v e w.log m y z y.outcome es (λ u. Freed v w0 m 1 u) g h ev yat refl refl
       (λ live.
       let u : World M = turned_to w w.log m z y.outcome es in
-      let hd : Held u (mail v m L (Release (y.core.passed + 1))) = sends_to w v w.log m z y.outcome es m (locker_at y) L 0 (Release (y.core.passed + 1)) rn.view nk.node (ap (λ (t : View). locker_of t.members) rn.view) refl in
+      let hd : Held u (mail v m L (Release (y.core.passed + 1))) = sends_to w v w.log m z y.outcome es m (locker_at y) L 0 (Release (y.core.passed + 1)) rn.view nk.local.node (ap (λ (t : View). locker_of t.members) rn.view) refl in
       let here : queue_at u m ≡ length z.core.queue = ap (λ (o : Option (NodeState M)). shown (λ (t : NodeState M). length t.core.queue) 0 o) (put_self w.nodes m (Some z)) in
       let was : queue_at w m ≡ length y.core.queue = shown_at (λ (t : NodeState M). length t.core.queue) 0 w m y yat in
       let few : queue_at w m ≤ queue_at w0 m = nr.fewer m in
@@ -270,7 +270,7 @@ module _ {M : Machine} where
       let op : joining.is_open x.join ≡ true = h.open_ L x ll o.1.node in
       let lks : joining.locks x.join ≡ true =
       ap (λ (t : View). is_locker t.members x.join.node) o.1.view
-      ∙ ap (λ (a : ℕ). is_locker v.members a) nk.node ∙ locker_locks v.members ll in
+      ∙ ap (λ (a : ℕ). is_locker v.members a) nk.local.node ∙ locker_locks v.members ll in
       let ow : Owner w L x = record { runs = o.1.node; ready = open_is_ready x.join op; locker = lks; held = ap (λ (t : View). t.number) o.1.view ∙ sym h.stand.held } in
       let zr = member_runs w v to z h lt zat in
       let mo = (h.stand.sound.inv.owner L x ow).members op to z zat (ap (λ (t : View). inc_of t.members to) o.1.view ∙ sym zr.inc) in
@@ -293,7 +293,7 @@ module _ {M : Machine} where
   awaited : (w : World M) (v : View) (m : ℕ) (y : NodeState M) (s : Spreading) → Live w v → 0 < inc_of v.members m → w.nodes m ≡ Some y → y.core.spreading ≡ Some s → (to : ℕ) × (updating.receiver y.core s.at ≡ Some to) × (0 < inc_of v.members to) × (is_locker v.members to ≡ false) × (s.at < length (spread_of v.members))
   awaited w v m y s h lm yat sp =
       let rn = member_runs w v m y h lm yat in
-      let mem : y.core.members ≡ v.members = (h.stand.sound.inv.nodes m y yat).core_members ∙ ap (λ (t : View). t.members) rn.view in
+      let mem : y.core.members ≡ v.members = (h.stand.sound.inv.nodes m y yat).local.core_members ∙ ap (λ (t : View). t.members) rn.view in
       let aw = (h.stand.sound.cores m y yat).0.awaits s sp in
       let rs = receiver_says y.core s.at aw.0 aw.1 in
       let there : slice_get (spread_of v.members) s.at ≡ Some rs.0 = ap (λ (ms : List Member). slice_get (spread_of ms) s.at) (sym mem) ∙ rs.1 in
@@ -316,18 +316,18 @@ module _ {M : Machine} where
       let to : ℕ = aw.0 in
       let lto : 0 < inc_of v.members to = aw.2 in
       let nlk : is_locker v.members to ≡ false = aw.3 in
-      let copen : y.core.is_open ≡ true = nk.core_open ∙ h.open_ m y lm yat in
+      let copen : y.core.is_open ≡ true = nk.local.core_open ∙ h.open_ m y lm yat in
       let tk = apply_tells y s to r copen some sp aw.1 f.1 in
       let u1 : World M = turned w w.log m y (tick y).effects in
       go law w v (Tick m) w.log m y y (tick y).effects (λ u. Freed v w0 m 1 u) refl h (tick_is w m y yat) yat refl refl
       (λ h1.
       let n1 : Near w0 u1 = near_turned w0 w m y y (tick y).effects nr yat (omega arith) in
-      let hd1 : Held u1 (mail v m to (Apply r)) = sends w v w.log m y (tick y).effects m to to tk.0 (Apply r) rn.view nk.node refl tk.1 in
+      let hd1 : Held u1 (mail v m to (Apply r)) = sends w v w.log m y (tick y).effects m to to tk.0 (Apply r) rn.view nk.local.node refl tk.1 in
       let zo = h1.stand.member to lto in
       let z : NodeState M = zo.0 in
       let zk : NodeOk u1 to z = h1.stand.sound.inv.nodes to z zo.1.node in
       let zop : joining.is_open z.join ≡ true = h1.open_ to z lto zo.1.node in
-      let znl : joining.locks z.join ≡ false = ap (λ (t : View). is_locker t.members z.join.node) zo.1.view ∙ ap (λ (a : ℕ). is_locker v.members a) zk.node ∙ nlk in
+      let znl : joining.locks z.join ≡ false = ap (λ (t : View). is_locker t.members z.join.node) zo.1.view ∙ ap (λ (a : ℕ). is_locker v.members a) zk.local.node ∙ nlk in
       let ne : r.place ≤ done_of z + 1 = near_end u1 v to z r h1 ll lto zo.1.node st in
       let ao = apply_out z m r (open_is_ready z.join zop) znl ne in
       let t : NodeState M = ao.0 in
@@ -339,7 +339,7 @@ module _ {M : Machine} where
       (λ h2.
       let n2 : Near w0 u2 = near_turned w0 u1 to z t es2 n1 zo.1.node tl in
       let tv : t.join.view ≡ v = ap (λ (j : ReconcileState). j.view) ao.2 ∙ zo.1.view in
-      let tn : t.join.node ≡ to = ap (λ (j : ReconcileState). j.node) ao.2 ∙ zk.node in
+      let tn : t.join.node ≡ to = ap (λ (j : ReconcileState). j.node) ao.2 ∙ zk.local.node in
       let hd2 : Held u2 (mail v to m (Applied r.place)) = sends u1 v u1.log to t es2 to m m 0 (Applied r.place) tv tn refl refl in
       let yo = h2.stand.member m lm in
       let b : NodeState M = yo.0 in

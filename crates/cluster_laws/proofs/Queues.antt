@@ -102,7 +102,7 @@ module _ {M : Machine} where
           queue = idle n lt;
           lock = none_or x.core.lock (λ l e.
               let lk : joining.locks x.join ≡ true = (nk.lock l e).1 in
-              let at : is_locker v.members n ≡ true = ap (λ (a : ℕ). is_locker v.members a) (sym nk.node) ∙ ap (λ (u : View). is_locker u.members x.join.node) (sym o.1.view) ∙ lk in
+              let at : is_locker v.members n ≡ true = ap (λ (a : ℕ). is_locker v.members a) (sym nk.local.node) ∙ ap (λ (u : View). is_locker u.members x.join.node) (sym o.1.view) ∙ lk in
               let same : locker_of v.members ≡ n = locker_is v.members n at in
               let q : None ≡ Some l = sym d.free ∙ ap (λ (a : ℕ). lock_at t a) same ∙ shown_at (λ (u : NodeState M). u.core.lock) None t n x o.1.node ∙ e in
               cc);

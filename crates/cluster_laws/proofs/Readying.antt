@@ -71,7 +71,7 @@ module _ {M : Machine} where
       let o : w.log.view_at r.place ≤ w.log.view_at e.0.place = j.log.ordered r e.0 st se (omega arith) in
       let v : w.log.view_at e.0.place < x.join.view.number = j.log.early x.join.view.number c e.0 i se (omega arith) in
       h.waiting r e.0 ls.0 wt st id se (omega arith) ls.1
-      (j.chain.chain.unbroken (w.log.view_at r.place) (w.log.view_at e.0.place) x.join.view.number lr.0 ls.0 x.join.view n x.join.inc lr.1 ls.1 d.0 o (omega arith) h.positive
+      (j.chain.chain.unbroken (w.log.view_at r.place) (w.log.view_at e.0.place) x.join.view.number lr.0 ls.0 x.join.view n x.join.inc lr.1 ls.1 d.0 o (omega arith) h.local.positive
       (ap (inc_of lr.0.members) (sym id.node) ∙ sym lr.2 ∙ id.inc) d.1)
 
   -- a node that takes a whole state at the count of its view, two records away or more, knows what came of its head
@@ -82,7 +82,7 @@ module _ {M : Machine} where
       let near : r.place ≤ done_of x → P = λ b. h.outcome r f st id b in
       let waiting_ : x.settled ≡ None → P = λ ns.
       let nh : r.place ≤ done_of x + 1 = h.near_head r (f, ns) st id in
-      let fr : done_of x + 1 < c = far (h.full_state f) in
+      let fr : done_of x + 1 < c = far (h.local.full_state f) in
       absurd (waiting_not_below w n x c r j at nz ct (f, ns) st id (omega arith)) in
       let set_ : (k : ℕ) → x.settled ≡ Some k → P = λ k e.
       let t = h.settled k e in
@@ -102,39 +102,45 @@ module _ {M : Machine} where
       let h : NodeOk w n x = j.nodes n x at in
       let y : NodeState M = readied x s last out in
       let le : s.done ≤ length w.log.order = (j.log.counts x.join.view.number s.done k.counted).0 in
-      let up : done_of x ≤ s.done = h.unready s.done k.counted k.unready in
+      let up : done_of x ≤ s.done = h.prefix.unready s.done k.counted k.unready in
       let shut : joining.is_open x.join ≡ false = unready_unopen x.join k.unready in
       let not_open : joining.is_open x.join ≡ true → ⊥ = λ o. locker_not (joining.is_open x.join) o shut in
       let count_is : (c : ℕ) → w.log.count x.join.view.number ≡ Some c → c ≡ s.done = λ c i. let z : Some c ≡ Some s.done = sym i ∙ k.counted in cc in
-      let head_id : (e : Entry) → Has e x.join.node x.join.inc (at_head x) → Has e n x.join.inc (at_head x) = λ e id. record { node = id.node ∙ h.node; inc = id.inc; req = id.req } in
+      let head_id : (e : Entry) → Has e x.join.node x.join.inc (at_head x) → Has e n x.join.inc (at_head x) = λ e id. record { node = id.node ∙ h.local.node; inc = id.inc; req = id.req } in
       record {
-        node = h.node;
+        local = record {
+          node = h.local.node;
+          positive = h.local.positive;
+          core_node = h.local.core_node;
+          core_members = h.local.core_members;
+          entries = h.local.entries;
+          peopled = h.local.peopled;
+          core_open = h.local.core_open ∙ shut;
+          unsettled = λ c. absurd (cc);
+          ready_view = λ c. k.view;
+          idle = λ q. ((h.local.idle q).0, if_cases (λ (t : Option ℕ). t ≡ None) (shows last x) (Some s.done) x.settled (λ e. absurd ((shows_head last x e).3 q)) (λ e. (h.local.idle q).1));
+          full_state = λ f. refl;
+          pulling = λ o e. absurd (cc);
+        };
+        prefix = record {
+          within = le;
+          registry = λ t e. let q : s ≡ t = cc in subst (λ (t : Replica M). t.registry ≡ registry_at M w.log.cap w.log.order t.done) q k.reg;
+          last = λ t e. let q : s ≡ t = cc in subst (λ (t : Replica M). last ≡ at_place w.log.order t.done) q k.last_at;
+          ready_state = λ c. (refl, s.done, k.counted, omega arith);
+          below = λ u c i b. j.log.rising x.join.view.number u s.done c k.counted i (omega arith);
+          unready = λ c i b. absurd (cc);
+          pull = λ o e. absurd (cc);
+          pulled = λ g e. absurd (cc);
+          closed = λ a b c. k.counted;
+        };
         inc = h.inc;
-        positive = h.positive;
-        core_node = h.core_node;
-        core_members = h.core_members;
-        entries = h.entries;
         view = h.view;
-        peopled = h.peopled;
         marked = h.marked;
         queued = h.queued;
         all_requests = h.all_requests;
         finished = h.finished;
-        core_open = h.core_open ∙ shut;
-        unsettled = λ c. absurd (cc);
-        ready_view = λ c. k.view;
-        within = le;
-        registry = λ t e. let q : s ≡ t = cc in subst (λ (t : Replica M). t.registry ≡ registry_at M w.log.cap w.log.order t.done) q k.reg;
-        last = λ t e. let q : s ≡ t = cc in subst (λ (t : Replica M). last ≡ at_place w.log.order t.done) q k.last_at;
-        ready_state = λ c. (refl, s.done, k.counted, omega arith);
-        below = λ u c i b. j.log.rising x.join.view.number u s.done c k.counted i (omega arith);
-        unready = λ c i b. absurd (cc);
-        pull = λ o e. absurd (cc);
-        pulled = λ g e. absurd (cc);
-        closed = λ a b c. k.counted;
         lock = λ l e. absurd (not_open ((h.lock l e).0));
         all_ready = λ c. absurd (cc);
-        idle = λ q. ((h.idle q).0, if_cases (λ (t : Option ℕ). t ≡ None) (shows last x) (Some s.done) x.settled (λ e. absurd ((shows_head last x e).3 q)) (λ e. (h.idle q).1));
         settled = λ p e. if_cases (λ (t : Option ℕ). t ≡ Some p → (r : Entry) × Stands w.log r × (r.place ≡ p) × Has r n x.join.inc (at_head x) × (p ≤ s.done) × (true ≡ true → (c : ℕ) → w.log.count x.join.view.number ≡ Some c → p ≤ c)) (shows last x) (Some s.done) x.settled
             (λ i q. let g = shows_head last x i in
             let here : at_place w.log.order s.done ≡ Some g.0 = sym k.last_at ∙ g.1 in
@@ -148,8 +154,6 @@ module _ {M : Machine} where
         waiting_doubt = λ r t u wt st id. h.waiting_doubt r t u ((ready_waits x s last out wt).0) st id;
         near_head = λ r wt st id. omega (arith, h.near_head r ((ready_waits x s last out wt).0) st id, up);
         near_doubt = λ r wt mb id. omega (arith, h.near_doubt r ((ready_waits x s last out wt).0) mb id, up);
-        full_state = λ f. refl;
-        pulling = λ o e. absurd (cc);
         outcome = k.known;
         behind = λ r c wt st id rd i.
             let rw_ : waits x × (shows last x ≡ false) = ready_waits x s last out wt in
@@ -161,7 +165,7 @@ module _ {M : Machine} where
             (λ (b2 : c ≤ r.place).
             let pl : r.place ≡ s.done = omega arith in
             let la : last ≡ Some r = k.last_at ∙ ap (at_place w.log.order) (sym pl) ∙ st.at in
-            let id2 : Has r x.join.node x.join.inc (at_head x) = record { node = id.node ∙ sym h.node; inc = id.inc; req = id.req } in
+            let id2 : Has r x.join.node x.join.inc (at_head x) = record { node = id.node ∙ sym h.local.node; inc = id.inc; req = id.req } in
             let z : shows last x ≡ true = ap (λ (l : Option Entry). shows l x) la ∙ has_is_head r x id2 wt.0 in
             locker_not (shows last x) z rw_.1)
             (cases_lt r.place c)))
@@ -171,11 +175,11 @@ module _ {M : Machine} where
   pub ready_grown : (w : World M) (n : ℕ) (x : NodeState M) (s : Replica M) (last : Option Entry) (out : Option M.Outcome) → Invariant w → w.nodes n ≡ Some x → Readies w n x s last out → Grown x (readied x s last out)
   ready_grown w n x s last out j at k = record {
     inc = refl;
-    done = (j.nodes n x at).unready s.done k.counted k.unready;
+    done = (j.nodes n x at).prefix.unready s.done k.counted k.unready;
     passed = omega arith;
     asks = omega arith;
     view = omega arith;
-    settled = λ p e. if_cases (λ (t : Option ℕ). t ≡ Some p → (x.settled ≡ Some p) ⊎ (done_of x ≤ p)) (shows last x) (Some s.done) x.settled (λ i q. let up : done_of x ≤ s.done = (j.nodes n x at).unready s.done k.counted k.unready in let dp : s.done ≡ p = cc in inr (omega arith)) (λ i q. inl q) e;
+    settled = λ p e. if_cases (λ (t : Option ℕ). t ≡ Some p → (x.settled ≡ Some p) ⊎ (done_of x ≤ p)) (shows last x) (Some s.done) x.settled (λ i q. let up : done_of x ≤ s.done = (j.nodes n x at).prefix.unready s.done k.counted k.unready in let dp : s.done ≡ p = cc in inr (omega arith)) (λ i q. inl q) e;
     waits = λ a b c. (ready_waits x s last out c).0;
   }
 

@@ -46,42 +46,46 @@ module _ {M : Machine} where
       move_keeps w n x y [] j at (record {
         grown = gr;
         node = node_in w n x y [] j at gr (record {
-          node = h.node;
+          local = record {
+            node = h.local.node;
+            positive = h.local.positive;
+            core_node = h.local.core_node;
+            full_state = h.local.full_state;
+            core_members = refl;
+            core_open = refl;
+            entries = length-replicate (length v.members) 0;
+            peopled = λ m pos e. absurd (omega arith);
+            ready_view = λ c. absurd (cc);
+            idle = λ e. (refl, (h.local.idle e).1);
+            unsettled = λ c. absurd (cc);
+            pulling = λ o e. absurd (cc);
+          };
+          prefix = record {
+            within = h.prefix.within;
+            registry = h.prefix.registry;
+            last = h.prefix.last;
+            ready_state = λ c. absurd (cc);
+            below = λ u c i b. h.prefix.below u c i (omega arith);
+            unready = λ c i b. h.prefix.below v.number c i up;
+            pull = λ o e. absurd (cc);
+            pulled = λ g e. absurd (cc);
+            closed = λ a b c. absurd (cc);
+          };
           inc = h.inc;
-          positive = h.positive;
-          core_node = h.core_node;
-          within = h.within;
-          registry = h.registry;
-          last = h.last;
           waiting = h.waiting;
           waiting_doubt = h.waiting_doubt;
           near_head = h.near_head;
           near_doubt = h.near_doubt;
-          full_state = h.full_state;
           outcome = h.outcome;
           queued = h.queued;
           all_requests = h.all_requests;
-          core_members = refl;
-          core_open = refl;
-          entries = length-replicate (length v.members) 0;
           view = λ nz. (decl, mem);
-          peopled = λ m pos e. absurd (omega arith);
-          ready_view = λ c. absurd (cc);
-          ready_state = λ c. absurd (cc);
-          below = λ u c i b. h.below u c i (omega arith);
-          unready = λ c i b. h.below v.number c i up;
-          pull = λ o e. absurd (cc);
-          pulled = λ g e. absurd (cc);
-          closed = λ a b c. absurd (cc);
           lock = λ l e. absurd (cc);
           marked = λ m e pos. absurd (locker_not (joining.is_marked y.join m) e (unmarked m));
           all_ready = λ c. absurd (cc);
-          idle = λ e. (refl, (h.idle e).1);
           settled = λ k e. let t = h.settled k e in (t.0, t.1, t.2, t.3, t.4, λ a. absurd (cc));
-          unsettled = λ c. absurd (cc);
           spreading = λ s e. absurd (cc);
           behind = λ r c wt st id a. absurd (cc);
-          pulling = λ o e. absurd (cc);
           finished = λ q p b. let f = h.finished q p b in (f.0, f.1, f.2, f.3, f.4, f.5, omega (arith, f.6));
         });
         messages = none_told (λ (p : Sent). Pooled (moved w n y []) p);
@@ -200,7 +204,7 @@ module _ {M : Machine} where
       let none : (r : Entry) → w.log.doubtful ≡ Some r → ⊥ = λ r q. absurd (let z : ◌≡◌ {A = Option Entry} None (Some r) = sym k.none ∙ q in cc) in
       -- a ready node's count is an old one
       let ready_old : (m : ℕ) (z : NodeState M) → w.nodes m ≡ Some z → joining.is_ready z.join ≡ true → (c : ℕ) → w'.log.count z.join.view.number ≡ Some c → w.log.count z.join.view.number ≡ Some c =
-      λ m z at rd c i. let a = (j.nodes m z at).ready_state rd in ⊎_elim
+      λ m z at rd c i. let a = (j.nodes m z at).prefix.ready_state rd in ⊎_elim
       (λ (d : (z.join.view.number ≡ v.number) × (length w.log.order ≡ c)). absurd (omega (arith, d.0, (j.log.counts z.join.view.number a.1 a.2).1, k.higher)))
       (λ (d : w.log.count z.join.view.number ≡ Some c). d)
       (claim_count w v z.join.view.number c i) in
@@ -250,37 +254,28 @@ module _ {M : Machine} where
           held = λ nz. (v, k.declared, entered_ w w' (locker_of v.members) (inc_of v.members (locker_of v.members)) v.number e k.entered_);
         };
         nodes = λ m z at. let h : NodeOk w m z = j.nodes m z at in record {
-          node = h.node;
+          local = h.local;
+          prefix = record {
+            within = h.prefix.within;
+            registry = h.prefix.registry;
+            last = h.prefix.last;
+            ready_state = λ c. let a = h.prefix.ready_state c in (a.0, a.1, lift z.join.view.number a.1 a.2, a.3);
+            below = λ u c i b. ⊎_elim
+                (λ (d : (u ≡ v.number) × (length w.log.order ≡ c)). omega (arith, d.1, h.prefix.within))
+                (λ (d : w.log.count u ≡ Some c). h.prefix.below u c d b)
+                (claim_count w v u c i);
+            unready = λ c i b. ⊎_elim
+                (λ (d : (z.join.view.number ≡ v.number) × (length w.log.order ≡ c)). omega (arith, d.1, h.prefix.within))
+                (λ (d : w.log.count z.join.view.number ≡ Some c). h.prefix.unready c d b)
+                (claim_count w v z.join.view.number c i);
+            pull = λ o f. let a = h.prefix.pull o f in (a.0, lift z.join.view.number o.count a.1, a.2, a.3, a.4);
+            pulled = h.prefix.pulled;
+            closed = λ a b c. lift z.join.view.number (done_of z) (h.prefix.closed a b c);
+          };
           inc = h.inc;
-          positive = h.positive;
-          core_node = h.core_node;
-          core_members = h.core_members;
-          core_open = h.core_open;
-          entries = h.entries;
           view = h.view;
-          peopled = h.peopled;
-          ready_view = h.ready_view;
-          within = h.within;
-          registry = h.registry;
-          last = h.last;
-          idle = h.idle;
-          unsettled = h.unsettled;
-          full_state = h.full_state;
-          pulling = h.pulling;
           queued = h.queued;
           all_requests = h.all_requests;
-          ready_state = λ c. let a = h.ready_state c in (a.0, a.1, lift z.join.view.number a.1 a.2, a.3);
-          below = λ u c i b. ⊎_elim
-              (λ (d : (u ≡ v.number) × (length w.log.order ≡ c)). omega (arith, d.1, h.within))
-              (λ (d : w.log.count u ≡ Some c). h.below u c d b)
-              (claim_count w v u c i);
-          unready = λ c i b. ⊎_elim
-              (λ (d : (z.join.view.number ≡ v.number) × (length w.log.order ≡ c)). omega (arith, d.1, h.within))
-              (λ (d : w.log.count z.join.view.number ≡ Some c). h.unready c d b)
-              (claim_count w v z.join.view.number c i);
-          pull = λ o f. let a = h.pull o f in (a.0, lift z.join.view.number o.count a.1, a.2, a.3, a.4);
-          pulled = h.pulled;
-          closed = λ a b c. lift z.join.view.number (done_of z) (h.closed a b c);
           lock = λ l f. let t = h.lock l f in (t.0, t.1, t.2, t.3, record { at = t.4.at; view = t.4.view }, t.5, t.6, t.7, t.8);
           marked = λ b c p. was_ready w w' b (inc_of z.join.view.members b) z.join.view.number e ao (h.marked b c p);
           all_ready = λ c b p. was_ready w w' b (inc_of z.join.view.members b) z.join.view.number e ao (h.all_ready c b p);
@@ -295,7 +290,7 @@ module _ {M : Machine} where
           outcome = λ r f sr id le. h.outcome r f (record { at = sr.at }) id le;
           finished = λ q p b. let f = h.finished q p b in (f.0, f.1, f.2, record { at = f.3.at }, f.4, f.5, f.6);
         };
-        owner = λ m z o. absurd (let a = (j.nodes m z o.runs).ready_state o.ready in omega (arith, o.held, (j.log.counts z.join.view.number a.1 a.2).1, k.higher));
+        owner = λ m z o. absurd (let a = (j.nodes m z o.runs).prefix.ready_state o.ready in omega (arith, o.held, (j.log.counts z.join.view.number a.1 a.2).1, k.higher));
         pool = λ i p s. pooled w w' p e ao (λ v c f. (j.log.counts v c f).0) (j.pool i p s);
         points = λ a p s. past w w' p.node p.inc p.place e (j.points a p s);
         steady = j.steady;

@@ -60,7 +60,7 @@ module _ {M : Machine} where
   granted_go law v w0 w m y r l h nr hd lm ll yat some none rq lk ln lr =
       let L : ℕ = locker_of v.members in
       let nk : NodeOk w m y = h.stand.sound.inv.nodes m y yat in
-      let op : y.core.is_open ≡ true = nk.core_open ∙ h.open_ m y lm yat in
+      let op : y.core.is_open ≡ true = nk.local.core_open ∙ h.open_ m y lm yat in
       let asks : updating.asks_for y.core r.id.req ≡ true =
       both (nat_lt 0 (length y.core.queue) && nat_eq r.id.req (y.core.passed + 1)) (is_none y.core.spreading)
       (both (nat_lt 0 (length y.core.queue)) (nat_eq r.id.req (y.core.passed + 1)) (lt_is 0 (length y.core.queue) some) (eq_is r.id.req (y.core.passed + 1) rq))
@@ -83,7 +83,7 @@ module _ {M : Machine} where
       let q : ℕ = r.id.req in
       let nk : NodeOk w m y = h.stand.sound.inv.nodes m y yat in
       let rn = member_runs w v m y h lm yat in
-      let op : y.core.is_open ≡ true = nk.core_open ∙ h.open_ m y lm yat in
+      let op : y.core.is_open ≡ true = nk.local.core_open ∙ h.open_ m y lm yat in
       let nope : (y.core.is_open && updating.asks_for y.core q) ≡ false = off y.core.is_open (nat_lt 0 (length y.core.queue)) (nat_eq q (y.core.passed + 1)) (is_none y.core.spreading) (eq_not q (y.core.passed + 1) (omega (arith, left))) in
       let yes : (y.core.is_open && updating.has_left y.core q) ≡ true = both y.core.is_open (updating.has_left y.core q) op (both (nat_lt 0 q) (nat_le q y.core.passed) (lt_is 0 q one) (le_is q y.core.passed left)) in
       let gr : updating.granted y.core q r.place ≡ (y.core, decision.ReleaseAgain q) =
@@ -96,7 +96,7 @@ module _ {M : Machine} where
       (λ live.
       let u : World M = turned w w.log m y es in
       let n1 : Near w0 u = near_turned w0 w m y y es nr yat (omega arith) in
-      let hd2 : Held u (mail v m L (Release q)) = sends w v w.log m y es m (locker_at y) L 0 (Release q) rn.view nk.node (ap (λ (t : View). locker_of t.members) rn.view) refl in
+      let hd2 : Held u (mail v m L (Release q)) = sends w v w.log m y es m (locker_at y) L 0 (Release q) rn.view nk.local.node (ap (λ (t : View). locker_of t.members) rn.view) refl in
       let few : queue_at u m ≤ queue_at w0 m = n1.fewer m in
       release_step law v w0 u m q 0 l live n1 hd2 lm ll (shown_same (λ (t : NodeState M). t.core.lock) None w.nodes m y y yat refl L ∙ lk) ln lr (omega (arith, few)))
     where
@@ -121,8 +121,8 @@ module _ {M : Machine} where
       let f = xk.lock l xl in
       let r : Entry = f.2 in
       let st : Stands w.log r = record { at = f.4.at } in
-      let s = state_of x (xk.ready_state (open_is_ready x.join f.0)).0 in
-      let last : x.last ≡ Some r = xk.last s.0 s.1 ∙ ap (λ (k : ℕ). at_place w.log.order k) (sym (done_at x s.0 s.1)) ∙ f.3 in
+      let s = state_of x (xk.prefix.ready_state (open_is_ready x.join f.0)).0 in
+      let last : x.last ≡ Some r = xk.prefix.last s.0 s.1 ∙ ap (λ (k : ℕ). at_place w.log.order k) (sym (done_at x s.0 s.1)) ∙ f.3 in
       let m : ℕ = l.node in
       let rinc : r.id.inc ≡ inc_of v.members m = f.6 ∙ ap (λ (t : View). inc_of t.members m) o.1.view in
       let lg = h.stand.sound.inv.log.logged r st in
@@ -139,7 +139,7 @@ module _ {M : Machine} where
       go law w v (Tick L) w.log L x x es (λ u. Freed v w m 0 u) refl h (tick_is w L x xat) xat refl refl
       (λ live.
       let n1 : Near w u = near_turned w w L x x es (near_self w) xat (omega arith) in
-      let hd : Held u (mail v L m (Granted r)) = sends w v w.log L x es L m m tk.0 (Granted r) o.1.view xk.node refl tk.1 in
+      let hd : Held u (mail v L m (Granted r)) = sends w v w.log L x es L m m tk.0 (Granted r) o.1.view xk.local.node refl tk.1 in
       let y1 : u.nodes m ≡ Some y = same w.nodes L x xat m ∙ yat in
       let lk1 : lock_at u L ≡ Some l = shown_same (λ (t : NodeState M). t.core.lock) None w.nodes L x x xat refl L ∙ lk in
       let done : r.id.req ≤ y.core.passed → Leads goes_on u (λ t. Freed v w m 0 t) = λ le. finished_go law v w u m y r l live n1 hd lm ll y1 (omega (arith, ask)) le lk1 refl (sym f.7) in
@@ -175,15 +175,15 @@ module _ {M : Machine} where
       let x : NodeState M = o.0 in
       let nk : NodeOk w L x = h.stand.sound.inv.nodes L x o.1.node in
       let op : joining.is_open x.join ≡ true = h.open_ L x ll o.1.node in
-      let mem : x.core.members ≡ v.members = nk.core_members ∙ ap (λ (t : View). t.members) o.1.view in
+      let mem : x.core.members ≡ v.members = nk.local.core_members ∙ ap (λ (t : View). t.members) o.1.view in
       let lks : joining.locks x.join ≡ true =
       ap (λ (t : View). is_locker t.members x.join.node) o.1.view
-      ∙ ap (λ (a : ℕ). is_locker v.members a) nk.node ∙ locker_locks v.members ll in
+      ∙ ap (λ (a : ℕ). is_locker v.members a) nk.local.node ∙ locker_locks v.members ll in
       record {
         node = x;
         runs = o.1;
-        is_open = nk.core_open ∙ op;
-        locks = ap (λ (ms : List Member). is_locker ms x.core.node) mem ∙ ap (λ (a : ℕ). is_locker v.members a) nk.core_node ∙ locker_locks v.members ll;
+        is_open = nk.local.core_open ∙ op;
+        locks = ap (λ (ms : List Member). is_locker ms x.core.node) mem ∙ ap (λ (a : ℕ). is_locker v.members a) nk.local.core_node ∙ locker_locks v.members ll;
         members = mem;
         join_open = op;
         owner = h.stand.sound.inv.owner L x (record { runs = o.1.node; ready = open_is_ready x.join op; locker = lks; held = ap (λ (t : View). t.number) o.1.view ∙ sym h.stand.held });
@@ -199,7 +199,7 @@ module _ {M : Machine} where
       let yr = member_runs w v m y h lm yat in
       let yk : NodeOk w m y = h.stand.sound.inv.nodes m y yat in
       let mo = ow.owner.members ow.join_open m y yat (ap (λ (t : View). inc_of t.members m) ow.runs.view ∙ sym yr.inc) in
-      let k = mo.heads r (length_some y.core.queue some, yk.unsettled (h.open_ m y lm yat)) st has in
+      let k = mo.heads r (length_some y.core.queue some, yk.local.unsettled (h.open_ m y lm yat)) st has in
       let free : ow.node.core.lock ≡ None = sym (shown_at (λ (t : NodeState M). t.core.lock) None w (locker_of v.members) ow.node ow.runs.node) ∙ lk in
       let q : Some k.0 ≡ None = sym k.1 ∙ free in
       cc
@@ -222,12 +222,12 @@ module _ {M : Machine} where
       let f = first_of_list y.core.queue some in
       let a : Update = f.0 in
       let none : y.core.spreading ≡ None = none_or y.core.spreading (λ s sp. let t = yk.spreading s sp in head_free w v m y t.0 h lm ll yat some lk (record { at = t.4.at }) t.5) in
-      let tk = ask_tells y a f.1 (yk.core_open ∙ h.open_ m y lm yat) f.2 none in
+      let tk = ask_tells y a f.1 (yk.local.core_open ∙ h.open_ m y lm yat) f.2 none in
       let es1 : List Effect = (tick y).effects in
       let u1 : World M = turned w w.log m y es1 in
       go law w v (Tick m) w.log m y y es1 (λ t. Round v w m t) refl h (tick_is w m y yat) yat refl refl
       (λ h1.
-      let hd1 : Held u1 (mail v m L (Ask q a)) = sends w v w.log m y es1 m (locker_at y) L tk.0 (Ask q a) yr.view yk.node (ap (λ (t : View). locker_of t.members) yr.view) tk.1 in
+      let hd1 : Held u1 (mail v m L (Ask q a)) = sends w v w.log m y es1 m (locker_at y) L tk.0 (Ask q a) yr.view yk.local.node (ap (λ (t : View). locker_of t.members) yr.view) tk.1 in
       let lk1 : lock_at u1 L ≡ None = shown_same (λ (t : NodeState M). t.core.lock) None w.nodes m y y yat refl L ∙ lk in
       let ow = owned u1 v h1 ll in
       let x : NodeState M = ow.node in
@@ -262,10 +262,10 @@ module _ {M : Machine} where
       let u2 : World M = turned u1 l2 L z es2 in
       let ev : happens u1 (Deliver hd1.at Written) ≡ u2 = deliver_is u1 (mail v m L (Ask q a)) x hd1 xat ∙ ap (λ (t : Logged M). absorb L t.out (logs (number_of x) t u1)) rc in
       let pl : e.place ≡ length u1.log.order + 1 = ap (λ (b : ℕ). b + 1) dn in
-      let has : Has e m (inc_of x.core.members m) q = record { node = refl; inc = ap (λ (ms : List Member). inc_of ms m) (sym xk.core_members); req = refl } in
+      let has : Has e m (inc_of x.core.members m) q = record { node = refl; inc = ap (λ (ms : List Member). inc_of ms m) (sym xk.local.core_members); req = refl } in
       go law u1 v (Deliver hd1.at Written) l2 L x z es2 (λ t. Round v w m t) refl h1 ev xat refl refl
       (λ h2.
-      let hd2 : Held u2 (mail v L m (Granted e)) = sends u1 v l2 L z es2 L m m 0 (Granted e) ow.runs.view xk.node refl refl in
+      let hd2 : Held u2 (mail v L m (Granted e)) = sends u1 v l2 L z es2 L m m 0 (Granted e) ow.runs.view xk.local.node refl refl in
       let yo = h2.stand.member m lm in
       let b : NodeState M = yo.0 in
       let bq : b.core.queue ≡ y.core.queue = sym (shown_at (λ (t : NodeState M). t.core.queue) [] u2 m b yo.1.node) ∙ shown_same (λ (t : NodeState M). t.core.queue) [] u1.nodes L x z xat refl m ∙ shown_at (λ (t : NodeState M). t.core.queue) [] u1 m y y1 in

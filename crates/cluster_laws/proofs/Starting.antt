@@ -73,39 +73,43 @@ module _ {M : Machine} where
 
   pub fresh_ok : (w : World M) (n : ℕ) → length (w.requests n (w.starts n + 1)) ≡ 0 → NodeOk (started_world w n) n (fresh M n (w.starts n + 1))
   fresh_ok w n un = record {
-    node = refl;
+    local = record {
+      node = refl;
+      positive = omega arith;
+      core_node = refl;
+      core_members = refl;
+      core_open = refl;
+      entries = refl;
+      peopled = λ m pos. absurd (omega arith);
+      ready_view = λ c. absurd (cc);
+      idle = λ e. (refl, refl);
+      unsettled = λ c. refl;
+      full_state = λ f. absurd (f refl);
+      pulling = λ o e. absurd (cc);
+    };
+    prefix = record {
+      within = omega arith;
+      registry = λ r e. absurd (cc);
+      last = λ r e. absurd (cc);
+      ready_state = λ c. absurd (cc);
+      below = λ v c i b. omega arith;
+      unready = λ c i b. omega arith;
+      pull = λ o e. absurd (cc);
+      pulled = λ g e. absurd (cc);
+      closed = λ a b c. absurd (cc);
+    };
     inc = sym (put_same w.starts n (w.starts n + 1));
-    positive = omega arith;
-    core_node = refl;
-    core_members = refl;
-    core_open = refl;
-    entries = refl;
     view = λ nz. absurd (nz refl);
-    peopled = λ m pos. absurd (omega arith);
-    ready_view = λ c. absurd (cc);
-    within = omega arith;
-    registry = λ r e. absurd (cc);
-    last = λ r e. absurd (cc);
-    ready_state = λ c. absurd (cc);
-    below = λ v c i b. omega arith;
-    unready = λ c i b. omega arith;
-    pull = λ o e. absurd (cc);
-    pulled = λ g e. absurd (cc);
-    closed = λ a b c. absurd (cc);
     lock = λ l e. absurd (cc);
     marked = λ m e pos. absurd (omega arith);
     all_ready = λ c. absurd (cc);
-    idle = λ e. (refl, refl);
     settled = λ k e. absurd (cc);
-    unsettled = λ c. refl;
     spreading = λ s e. absurd (cc);
     waiting = λ r s u wt. absurd (wt.0 refl);
     waiting_doubt = λ r s u wt. absurd (wt.0 refl);
     behind = λ r c wt. absurd (wt.0 refl);
     near_head = λ r wt. absurd (wt.0 refl);
     near_doubt = λ r wt. absurd (wt.0 refl);
-    full_state = λ f. absurd (f refl);
-    pulling = λ o e. absurd (cc);
     outcome = λ r f. absurd (f refl);
     queued = λ k u e. absurd (no_update k u e);
     all_requests = un;
@@ -146,35 +150,16 @@ module _ {M : Machine} where
         nodes = λ m z at. ⊎_elim
             (λ (c : (m ≡ n) × (Some y ≡ Some z)). at_self (λ (a : ℕ) (b : NodeState M). NodeOk w' a b) m n y z c.0 c.1 (fresh_ok w n (j.log.unasked n (w.starts n + 1) (omega arith))))
             (λ (c : (m ≢ n) × (w.nodes m ≡ Some z)). let h : NodeOk w m z = j.nodes m z c.1 in record {
-              node = h.node;
-              positive = h.positive;
-              core_node = h.core_node;
-              core_members = h.core_members;
-              core_open = h.core_open;
-              entries = h.entries;
+              local = h.local;
+              prefix = h.prefix;
               view = h.view;
-              peopled = h.peopled;
-              ready_view = h.ready_view;
-              within = h.within;
-              registry = h.registry;
-              last = h.last;
-              ready_state = h.ready_state;
-              below = h.below;
-              unready = h.unready;
-              pull = h.pull;
-              pulled = h.pulled;
-              closed = h.closed;
               lock = h.lock;
-              idle = h.idle;
               settled = h.settled;
-              unsettled = h.unsettled;
               waiting = h.waiting;
               waiting_doubt = h.waiting_doubt;
               behind = h.behind;
               near_head = h.near_head;
               near_doubt = h.near_doubt;
-              full_state = h.full_state;
-              pulling = h.pulling;
               outcome = h.outcome;
               queued = h.queued;
               all_requests = h.all_requests;
@@ -198,7 +183,7 @@ module _ {M : Machine} where
               closed = k.closed;
               greatest = k.greatest;
               members = λ op a b at i. ⊎_elim
-                  (λ (d : (a ≡ n) × (Some y ≡ Some b)). absurd (let q : y ≡ b = cc in let r : w.starts n + 1 ≡ b.join.inc = ap (λ (t : NodeState M). t.join.inc) q in omega (arith, r, i, ap w.starts d.0, j.chain.started z.join.view.number a z.join.view ((h.view (h.ready_view o.ready)).0))))
+                  (λ (d : (a ≡ n) × (Some y ≡ Some b)). absurd (let q : y ≡ b = cc in let r : w.starts n + 1 ≡ b.join.inc = ap (λ (t : NodeState M). t.join.inc) q in omega (arith, r, i, ap w.starts d.0, j.chain.started z.join.view.number a z.join.view ((h.view (h.local.ready_view o.ready)).0))))
                   (λ (d : (a ≢ n) × (w.nodes a ≡ Some b)). k.members op a b d.1 i)
                   (put_cases w.nodes n (Some y) a b at);
             })
@@ -259,33 +244,14 @@ module _ {M : Machine} where
           held = λ s. let b = j.log.held s in (b.0, old w.log.held b.0 b.1, entered_ w w' (locker_of b.0.members) (inc_of b.0.members (locker_of b.0.members)) w.log.held e b.2);
         };
         nodes = λ m z at. let h : NodeOk w m z = j.nodes m z at in record {
-          node = h.node;
+          local = h.local;
+          prefix = h.prefix;
           inc = h.inc;
-          positive = h.positive;
-          core_node = h.core_node;
-          core_members = h.core_members;
-          core_open = h.core_open;
-          entries = h.entries;
-          peopled = h.peopled;
-          ready_view = h.ready_view;
-          within = h.within;
-          registry = h.registry;
-          last = h.last;
-          ready_state = h.ready_state;
-          below = h.below;
-          unready = h.unready;
-          pull = h.pull;
-          pulled = h.pulled;
-          closed = h.closed;
           lock = h.lock;
-          idle = h.idle;
           settled = h.settled;
-          unsettled = h.unsettled;
           behind = h.behind;
           near_head = h.near_head;
           near_doubt = h.near_doubt;
-          full_state = h.full_state;
-          pulling = h.pulling;
           outcome = h.outcome;
           queued = h.queued;
           all_requests = h.all_requests;

@@ -50,29 +50,10 @@ module _ {M : Machine} where
       let w' : World M = less w nodes mb mv hd in
       let e : Ext w w' = less_ext w nodes mb mv hd k in
       record {
-        node = h.node;
+        local = h.local;
+        prefix = h.prefix;
         inc = h.inc;
-        positive = h.positive;
-        core_node = h.core_node;
-        core_members = h.core_members;
-        core_open = h.core_open;
-        entries = h.entries;
         view = h.view;
-        peopled = h.peopled;
-        ready_view = h.ready_view;
-        within = h.within;
-        registry = h.registry;
-        last = h.last;
-        ready_state = h.ready_state;
-        below = h.below;
-        unready = h.unready;
-        pull = h.pull;
-        pulled = h.pulled;
-        closed = h.closed;
-        idle = h.idle;
-        unsettled = h.unsettled;
-        full_state = h.full_state;
-        pulling = h.pulling;
         queued = h.queued;
         all_requests = h.all_requests;
         lock = λ l f. let t = h.lock l f in (t.0, t.1, t.2, t.3, record { at = t.4.at; view = t.4.view }, t.5, t.6, t.7, t.8);
@@ -182,7 +163,7 @@ module _ {M : Machine} where
       let h : NodeOk w n x = j.nodes n x f.owner.runs in
       let gs = append_grows w n x s r j f in
       let k = append_new w n x s r j f in
-      let vw = (h.view (h.ready_view f.owner.ready)).0 in
+      let vw = (h.view (h.local.ready_view f.owner.ready)).0 in
       let Is : Entry → Type 0 = λ a. Some r ≡ Some a in
       let is : (a : Entry) → Is a → r ≡ a = λ a e. cc in
       less_keeps w (put w.nodes n None) (Some r) x.join.view.number w.log.held j (record {

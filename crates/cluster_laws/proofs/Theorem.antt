@@ -201,8 +201,8 @@ module _ (M : Machine) where
 
   pub safe : (w : World M) → Invariant w → Fitting w → Safe w
   safe w j fi = record {
-    within = λ n x r at e. let h : NodeOk w n x = j.nodes n x at in omega (arith, h.within, done_at x r e);
-    registry = λ n x r at e. (j.nodes n x at).registry r e;
+    within = λ n x r at e. let h : NodeOk w n x = j.nodes n x at in omega (arith, h.prefix.within, done_at x r e);
+    registry = λ n x r at e. (j.nodes n x at).prefix.registry r e;
     places = j.log.places;
     ids = λ a b d e at_a at_b same.
         let pa : d.place ≡ a = j.log.places a d at_a in
@@ -225,9 +225,9 @@ module _ (M : Machine) where
     applied = λ v k a n x e at op le.
         let h : NodeOk w n x = j.nodes n x at in
         let rd : joining.is_ready x.join ≡ true = open_is_ready x.join op in
-        let s = state_of x (h.ready_state rd).0 in
+        let s = state_of x (h.prefix.ready_state rd).0 in
         let all : AllReached w x.join.view.members k = open_reached w n x (a - 1) v k j at op rd (at_get w.acks a (v, k) e) le in
-        let d : k ≤ done_of x = (all.each n x.join.inc (h.view (h.ready_view rd)).1 h.positive).done x at refl in
+        let d : k ≤ done_of x = (all.each n x.join.inc (h.view (h.local.ready_view rd)).1 h.local.positive).done x at refl in
         (s.0, s.1, omega (arith, d, done_at x s.0 s.1));
   }
 

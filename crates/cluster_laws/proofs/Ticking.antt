@@ -64,7 +64,7 @@ module _ {M : Machine} where
   pub cap_is : IsMachine M → (w : World M) (n : ℕ) (x : NodeState M) → NodeOk w n x → has_state x ≡ true → offered_cap x ≡ w.log.cap
   cap_is law w n x h st =
       let s = state_of x st in
-      let e : M.cap s.0.registry ≡ w.log.cap = ap M.cap (h.registry s.0 s.1) ∙ replay_cap law (take s.0.done w.log.order) (M.empty w.log.cap) ∙ law.begins w.log.cap in
+      let e : M.cap s.0.registry ≡ w.log.cap = ap M.cap (h.prefix.registry s.0 s.1) ∙ replay_cap law (take s.0.done w.log.order) (M.empty w.log.cap) ∙ law.begins w.log.cap in
       ap (λ (r : Option (Replica M)). elim r [ None ↦ 0 | Some r ↦ M.cap r.registry ]) s.1 ∙ e
 
   pub offers_told : (P : Sent → Type 0) (x : NodeState M) (b : Body) (ms : List Member) → ((to : ℕ) → joining.waits_for x.join to ≡ true → P (packet x to b)) → Tells P (offer_each x b ms)
@@ -82,14 +82,14 @@ module _ {M : Machine} where
       ticked_cases (λ (d : Decision). Tells P (tick_head x d)) x.core
       (tells_none P)
       (λ op some none.
-      let jo : joining.is_open x.join ≡ true = sym h.core_open ∙ op in
+      let jo : joining.is_open x.join ≡ true = sym h.local.core_open ∙ op in
       let rd : joining.is_ready x.join ≡ true = open_is_ready x.join jo in
       let full : x.core.queue ≢ [] = length_some x.core.queue some in
       record {
         quiet = asks_acks x (Some (x.core.passed + 1));
         each = asks_told P x (Some (x.core.passed + 1)) (λ req u us q e.
             let same : x.core.passed + 1 ≡ req = cc in
-            ask_told w n x x es req u j at (grown_refl x) refl refl refl rd (omega (arith, full_asks x full)) (head_requested w n x u us req h e (sym same)) (λ r c st id i. h.behind r c (full, h.unsettled jo) st (record { node = id.node; inc = id.inc; req = id.req ∙ sym same }) rd i));
+            ask_told w n x x es req u j at (grown_refl x) refl refl refl rd (omega (arith, full_asks x full)) (head_requested w n x u us req h e (sym same)) (λ r c st id i. h.behind r c (full, h.local.unsettled jo) st (record { node = id.node; inc = id.inc; req = id.req ∙ sym same }) rd i));
       })
       (λ op some s sp to rc. option_cases (λ (l : List Effect). Tells P l) x.spreads [] (λ e. Send (packet x to (Apply e)) ∷ [])
       (λ none. tells_none P)
@@ -97,7 +97,7 @@ module _ {M : Machine} where
       let t = h.spreading s sp in
       let q : Some t.0 ≡ Some e = sym t.1 ∙ has in
       let same : t.0 ≡ e = cc in
-      tells_one P (packet x to (Apply e)) (told w n x x es to (Apply e) h (h.ready_view (open_is_ready x.join t.3)) refl refl (subst (λ (a : Entry). LoggedIn w.log a x.join.view.number) same (record { at = t.4.at; view = t.4.view })))))
+      tells_one P (packet x to (Apply e)) (told w n x x es to (Apply e) h (h.local.ready_view (open_is_ready x.join t.3)) refl refl (subst (λ (a : Entry). LoggedIn w.log a x.join.view.number) same (record { at = t.4.at; view = t.4.view })))))
 
   pub lock_told : (w : World M) (n : ℕ) (x : NodeState M) (es : List Effect) → Invariant w → w.nodes n ≡ Some x → Tells (λ (p : Sent). Pooled (moved w n x es) p) (tick_lock x)
   lock_told w n x es j at =
@@ -120,20 +120,20 @@ module _ {M : Machine} where
       let b = and_true (joining.locks x.join && not (joining.is_open x.join)) (nat_lt 0 (inc_of x.join.view.members to)) a.0 in
       let c = and_true (joining.locks x.join) (not (joining.is_open x.join)) b.0 in
       let shut : joining.is_open x.join ≡ false = not_true (joining.is_open x.join) c.1 in
-      let nz : x.join.view.number ≢ 0 = h.peopled to (lt_true 0 (inc_of x.join.view.members to) b.1) in
+      let nz : x.join.view.number ≢ 0 = h.local.peopled to (lt_true 0 (inc_of x.join.view.members to) b.1) in
       let rd : joining.is_ready x.join ≡ true = lr lk nz in
-      let st = (h.ready_state rd).0 in
+      let st = (h.prefix.ready_state rd).0 in
       let s = state_of x st in
-      told w n x x es to (Offer (done_of x) (offered_cap x) x.last) h nz refl refl (h.closed rd lk shut, cap_is law w n x h st, ap (at_place w.log.order) (done_at x s.0 s.1) ∙ sym (h.last s.0 s.1))))
+      told w n x x es to (Offer (done_of x) (offered_cap x) x.last) h nz refl refl (h.prefix.closed rd lk shut, cap_is law w n x h st, ap (at_place w.log.order) (done_at x s.0 s.1) ∙ sym (h.prefix.last s.0 s.1))))
       (λ none. tells_none P))
       (λ lk. option_cases Q (joining.pulled_bytes x.join) (if joining.is_ready x.join && not (joining.is_open x.join) then step.Ready else step.Nothing) (λ got. step.Pull got)
       (λ none. if_cases Q (joining.is_ready x.join && not (joining.is_open x.join)) _ _
       (λ g. let rd : joining.is_ready x.join ≡ true = (and_true (joining.is_ready x.join) (not (joining.is_open x.join)) g).0 in
-      tells_one P (packet x (locker_at x) Ready) (ready_sent w n x x es (locker_at x) h (h.ready_view rd) refl refl refl (node_in w n x x es j at (grown_refl x) h) rd))
+      tells_one P (packet x (locker_at x) Ready) (ready_sent w n x x es (locker_at x) h (h.local.ready_view rd) refl refl refl (node_in w n x x es j at (grown_refl x) h) rd))
       (λ g. tells_none P))
       (λ got some.
-      let p = h.pulled got (pulled_bytes_says x.join got some) in
-      let c = j.log.counts x.join.view.number p.0.count ((h.pull p.0 p.1).1) in
+      let p = h.prefix.pulled got (pulled_bytes_says x.join got some) in
+      let c = j.log.counts x.join.view.number p.0.count ((h.prefix.pull p.0 p.1).1) in
       let nz : x.join.view.number ≢ 0 = λ e. absurd (omega (arith, e, (place_within w.chain x.join.view.number c.2 c.3).0)) in
       tells_one P (packet x (locker_at x) (Need got)) (told w n x x es (locker_at x) (Need got) h nz refl refl tt)))
 
@@ -157,39 +157,20 @@ module _ {M : Machine} where
       move_keeps w n x y [] j at (record {
         grown = gr;
         node = node_in w n x y [] j at gr (record {
-          node = h.node;
+          local = h.local;
+          prefix = h.prefix;
           inc = h.inc;
-          positive = h.positive;
-          core_node = h.core_node;
-          core_members = h.core_members;
-          core_open = h.core_open;
-          entries = h.entries;
           view = h.view;
-          peopled = h.peopled;
-          ready_view = h.ready_view;
-          within = h.within;
-          registry = h.registry;
-          last = h.last;
-          ready_state = h.ready_state;
-          below = h.below;
-          unready = h.unready;
-          pull = h.pull;
-          pulled = h.pulled;
-          closed = h.closed;
           lock = h.lock;
           marked = h.marked;
           all_ready = h.all_ready;
-          idle = h.idle;
           settled = h.settled;
-          unsettled = h.unsettled;
           spreading = h.spreading;
           waiting = h.waiting;
           waiting_doubt = h.waiting_doubt;
           behind = h.behind;
           near_head = h.near_head;
           near_doubt = h.near_doubt;
-          full_state = h.full_state;
-          pulling = h.pulling;
           outcome = h.outcome;
           queued = h.queued;
           all_requests = h.all_requests;
@@ -220,7 +201,7 @@ module _ {M : Machine} where
       let now_ : Past w n x.join.inc (done_of x) = record {
         started = omega (arith, h.inc);
         done = λ z e same. self (λ (t : NodeState M). done_of x ≤ done_of t) (omega arith) z e;
-        settled = λ z k e same. self (λ (t : NodeState M). t.settled ≡ Some k → done_of x ≤ k) (λ f. absurd (let q : ◌≡◌ {A = Option ℕ} None (Some k) = sym (h.unsettled op) ∙ f in cc)) z e;
+        settled = λ z k e same. self (λ (t : NodeState M). t.settled ≡ Some k → done_of x ≤ k) (λ f. absurd (let q : ◌≡◌ {A = Option ℕ} None (Some k) = sym (h.local.unsettled op) ∙ f in cc)) z e;
       } in
       let gr : Grown x x = grown_refl x in
       let ex : Ext w (moved (with_history w w.requests ps) n x []) = ext_on w w.requests ps n x x [] (λ m i q u e. e) at gr in

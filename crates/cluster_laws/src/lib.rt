@@ -49,7 +49,8 @@ pub fn answered<R: Replicated>()
 
 /// The order only grows: no record of it is ever replaced or lost.
 pub fn grows<R: Replicated>()
-    ensures { (cap : ℕ) (events more : List Event) → R.machine.IsCap cap → (rest : List Entry) × ((run (events ++ more) (opening R.machine cap)).log.order ≡ (run events (opening R.machine cap)).log.order ++ rest) }
+    ensures { (cap : ℕ) (events more : List Event) → R.machine.IsCap cap → (rest : List Entry)
+        × ((run (events ++ more) (opening R.machine cap)).log.order ≡ (run events (opening R.machine cap)).log.order ++ rest) }
 {}
 
 /// A log that is recovered, at whatever moment, begins with the order as it stands then; at most a record whose append

@@ -38,5 +38,6 @@ outcome_at M cap order count e = (M.apply e (registry_at M cap order count)).1
 pub record IsMachine (M : Machine) : Type 0 where
   pub begins : (cap : ℕ) → M.cap (M.empty cap) ≡ cap
   pub keeps : (e : Entry) (registry : M.Registry) → M.cap (M.apply e registry).0 ≡ M.cap registry
-  pub reads_back : (cap : ℕ) (order : List Entry) → M.IsCap cap → AllByRecursion M.Fits order → M.decode cap (M.encode (replay M order (M.empty cap))) ≡ Some (replay M order (M.empty cap))
+  pub reads_back : (cap : ℕ) (order : List Entry) → M.IsCap cap → AllByRecursion M.Fits order
+      → M.decode cap (M.encode (replay M order (M.empty cap))) ≡ Some (replay M order (M.empty cap))
   pub fits : (e : Entry) → 0 < e.place → e.place ≤ last_place → e.stamp < 2 ^ 64 → IsUpdate e.update → M.Fits e

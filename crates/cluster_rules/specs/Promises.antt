@@ -25,11 +25,13 @@ pub record Safe {M : Machine} (w : World M) : Type 0 where
 -- Each acknowledged update stands in the order, and in every node that is open in that view or in a later one.
 pub record Kept {M : Machine} (w : World M) : Type 0 where
   pub stands : (v k : ℕ) (a : ℕ) → at_place w.acks a ≡ Some (v, k) → k ≤ length w.log.order
-  pub applied : (v k : ℕ) (a n : ℕ) (x : NodeState M) → at_place w.acks a ≡ Some (v, k) → w.nodes n ≡ Some x → joining.is_open x.join ≡ true → v ≤ number_of x → (r : Replica M) × (x.replica ≡ Some r) × (k ≤ r.done)
+  pub applied : (v k : ℕ) (a n : ℕ) (x : NodeState M) → at_place w.acks a ≡ Some (v, k) → w.nodes n ≡ Some x → joining.is_open x.join ≡ true → v ≤ number_of x
+      → (r : Replica M) × (x.replica ≡ Some r) × (k ≤ r.done)
 
 -- The points at which one incarnation of a node answers never fall.
 pub record Steady {M : Machine} (w : World M) : Type 0 where
-  pub rises : (a b : ℕ) (p q : Point M) → at_place w.points a ≡ Some p → at_place w.points b ≡ Some q → a ≤ b → p.node ≡ q.node → p.inc ≡ q.inc → p.place ≤ q.place
+  pub rises : (a b : ℕ) (p q : Point M) → at_place w.points a ≡ Some p → at_place w.points b ≡ Some q → a ≤ b → p.node ≡ q.node → p.inc ≡ q.inc
+      → p.place ≤ q.place
 
 -- Each answer to a request has the place of its own record, and what that record comes to there. The requests of an
 -- incarnation are answered in their order, each once and none left out.

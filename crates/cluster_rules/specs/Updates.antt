@@ -114,7 +114,8 @@ on_ask x from req update held answer = answers x update held answer (updating.as
 abbrev pub proceeds : {M : Machine} → NodeState M → Entry → CoreState × Decision → Out M
 proceeds x e r = elim (r.1) [
   | decision.Spread to place ↦ tells (record x { core = r.0; spreads = Some e }) to (Apply e)
-  | decision.Finish req place next ↦ acknowledges (without_head x r.0) x.outcome (Acked (number_of x) place ∷ Send (packet x (locker_at x) (Release req)) ∷ asks (without_head x r.0) next)
+  | decision.Finish req place next ↦ acknowledges (without_head x r.0) x.outcome
+      (Acked (number_of x) place ∷ Send (packet x (locker_at x) (Release req)) ∷ asks (without_head x r.0) next)
   | decision.ReleaseAgain req ↦ tells x (locker_at x) (Release req)
   | _ ↦ nothing x
 ]

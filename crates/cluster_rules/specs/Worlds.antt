@@ -114,7 +114,8 @@ acked (e ∷ es) = elim e [ Acked view place ↦ (view, place) ∷ acked es | _ 
 -- An acknowledgement is an answer at its place.
 abbrev pub points_of : {M : Machine} → ℕ → ℕ → ℕ → Option M.Outcome → List (ℕ × ℕ) → List (Point M)
 points_of node inc req outcome [] = []
-points_of {M} node inc req outcome (a ∷ as_) = record { node = node; inc = inc; place = a.1; req = req; outcome = outcome } ∷ points_of {M = M} node inc req outcome as_
+points_of {M} node inc req outcome (a ∷ as_) =
+    record { node = node; inc = inc; place = a.1; req = req; outcome = outcome } ∷ points_of {M = M} node inc req outcome as_
 
 -- The request of the head that a node has, where it has one.
 abbrev pub head_of : {M : Machine} → Option (NodeState M) → ℕ
@@ -199,7 +200,8 @@ die_in_install w n x v raised = stopped n (with_log (raise (opens_log w x v && r
 
 -- An update that a node takes is its next request.
 abbrev pub noted : {M : Machine} → ℕ → NodeState M → Update → World M → World M
-noted n x update w = if may_submit x then record w { requests = put w.requests n (put (w.requests n) x.join.inc (w.requests n x.join.inc ++ update ∷ [])) } else w
+noted n x update w =
+    if may_submit x then record w { requests = put w.requests n (put (w.requests n) x.join.inc (w.requests n x.join.inc ++ update ∷ [])) } else w
 
 abbrev pub reads : {M : Machine} → ℕ → NodeState M → World M → World M
 reads n x w = record w { points = w.points ++ record { node = n; inc = x.join.inc; place = done_of x; req = 0; outcome = None } ∷ [] }

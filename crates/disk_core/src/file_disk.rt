@@ -1,5 +1,6 @@
 //! A disk over a file.
 ghost use Rattle.std.specs.Prelude.{◌≡◌, ◌+◌, ◌-◌, ◌<◌, ◌≤◌, ◌^◌, length, min};
+ghost use Rattle.std.specs.Io.{ReadsAtMost, WritesAtMost};
 
 use crate::disk::Disk;
 use crate::fault::DiskFault;
@@ -9,6 +10,9 @@ use std::io::ErrorKind;
 use std::marker::Model;
 use std::os::unix::fs::FileExt;
 use std::path::Path;
+
+/// How often a call is tried that signals interrupt.
+const MOST_TRIES: u32 = 1024;
 
 /// The size of every disk over a file.
 const SIZE: u64 = 1_099_511_627_776;
@@ -168,7 +172,7 @@ where
         }
         self.open()?;
         let done = match &self.file {
-            Some(file) => file.sync_data(),
+            Some(file) => sync_again(file),
             None => Ok(()),
         };
         self.answer(done)?;
@@ -229,7 +233,7 @@ fn read_all<F: FileExt>(file: &F, at: u64, into: &mut [u8]) -> io::Result<()>
 {
     let mut done = 0;
     while done < into.len() {
-        let got = file.read_at(&mut into[done..], at + done as u64)?;
+        let got = read_again(file, &mut into[done..], at + done as u64)?;
         if got == 0 {
             into[done..].fill(0);
             return Ok(());
@@ -244,11 +248,48 @@ fn write_all<F: FileExt>(file: &F, at: u64, bytes: &[u8]) -> io::Result<()>
 {
     let mut done = 0;
     while done < bytes.len() {
-        let put = file.write_at(&bytes[done..], at + done as u64)?;
+        let put = write_again(file, &bytes[done..], at + done as u64)?;
         if put == 0 {
             return Err(io::Error::from(ErrorKind::WriteZero));
         }
         done += put;
     }
     Ok(())
+}
+
+/// Reads, and where a signal interrupts the call reads again.
+fn read_again<F: FileExt>(file: &F, into: &mut [u8], at: u64) -> io::Result<usize>
+    ensures { ReadsAtMost result into.new }
+{
+    'tries: for _ in 1..MOST_TRIES {
+        match file.read_at(into, at) {
+            Err(error) if error.kind() == ErrorKind::Interrupted => {}
+            done => return done,
+        }
+    }
+    file.read_at(into, at)
+}
+
+/// Writes, and where a signal interrupts the call writes again.
+fn write_again<F: FileExt>(file: &F, bytes: &[u8], at: u64) -> io::Result<usize>
+    ensures { WritesAtMost result bytes.now }
+{
+    'tries: for _ in 1..MOST_TRIES {
+        match file.write_at(bytes, at) {
+            Err(error) if error.kind() == ErrorKind::Interrupted => {}
+            done => return done,
+        }
+    }
+    file.write_at(bytes, at)
+}
+
+/// Syncs, and where a signal interrupts the call syncs again.
+fn sync_again<F: OpenFile>(file: &F) -> io::Result<()> {
+    'tries: for _ in 1..MOST_TRIES {
+        match file.sync_data() {
+            Err(error) if error.kind() == ErrorKind::Interrupted => {}
+            done => return done,
+        }
+    }
+    file.sync_data()
 }

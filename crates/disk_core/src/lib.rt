@@ -3,8 +3,12 @@
 
 pub mod crash_disk;
 pub mod disk;
+#[cfg(test)]
+mod fake_files;
 pub mod fault;
 pub mod file_disk;
+#[cfg(test)]
+mod file_tests;
 pub mod mem_disk;
 pub mod note;
 mod snapshot;

@@ -16,6 +16,8 @@ mod bytes_sink;
 mod bytes_source;
 mod door;
 mod failed;
+#[cfg(test)]
+mod fake_net;
 mod fault_plan;
 mod reading;
 mod script_door;
@@ -28,6 +30,8 @@ mod std_source;
 mod sure_sink;
 mod sure_source;
 mod tcp_door;
+#[cfg(test)]
+mod tcp_tests;
 #[cfg(test)]
 mod tests;
 mod writing;

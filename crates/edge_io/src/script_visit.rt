@@ -19,7 +19,13 @@ impl Model for ScriptVisit {
 
     ghost Value = { Visit };
 
-    ghost view = { λ v. record { taken = take v.place v.input.items; left = drop v.place v.input.items; written = v.written.items; failed_reads = v.failed_reads; failed_writes = v.failed_writes } };
+    ghost view = { λ v. record {
+      taken = take v.place v.input.items;
+      left = drop v.place v.input.items;
+      written = v.written.items;
+      failed_reads = v.failed_reads;
+      failed_writes = v.failed_writes;
+    } };
 
     ghost invariant = { λ v. v.place ≤ length v.input.items };
 }

@@ -1,4 +1,4 @@
-ghost use Rattle.std.specs.Prelude.{◌≡◌, ◌<◌, ℕ, None};
+ghost use Rattle.std.specs.Prelude.{◌≡◌, ◌<◌, ℕ, None, true, false, IsOk, IsErr};
 ghost use Rattle.std.specs.Io.{ReadsAtMost, WritesAtMost};
 ghost use Rattle.causes.specs.Counts.{HasCause};
 ghost use Rattle.causes.specs.Writing.{TakesSome};
@@ -37,6 +37,7 @@ pub struct TcpDoor<'a, R: Net + Clock> {
 }
 
 impl<'a, R: Net + Clock> Model for TcpDoor<'a, R> {
+    ghost use Rattle.std.specs.Prelude.{is_some};
     ghost use Rattle.edge_io.specs.Tcp.{Tcp};
 
     ghost Value = { Tcp };
@@ -44,11 +45,13 @@ impl<'a, R: Net + Clock> Model for TcpDoor<'a, R> {
     ghost view = { λ d. record {
       faults = record { accept = d.failed_accepts; read = d.failed_reads; write = d.failed_writes };
       to_come = d.to_come;
+      listens = is_some d.listener;
+      connected = is_some d.stream;
     } };
 }
 
 impl<'a, R: Net + Clock> TcpDoor<'a, R> {
-    ghost use Rattle.edge_io.specs.Tcp.{AcceptsOnly, fresh_tcp};
+    ghost use Rattle.edge_io.specs.Tcp.{ListensOnly, fresh_tcp};
 
     /// Listens at the address, and hands out so many connections. Makes no call of the system yet.
     pub fn at(runtime: &'a R, address: String, count: u32) -> TcpDoor<'a, R>
@@ -69,7 +72,8 @@ impl<'a, R: Net + Clock> TcpDoor<'a, R> {
     /// Begins to listen, where it doesn't yet, and waits for nothing.
     pub fn listen(&mut self) -> Result<(), Failed>
         ensures cause { HasCause self.old.faults.accept self.new.faults.accept result }
-        ensures others { AcceptsOnly self.old self.new }
+        ensures listens { IsOk result → self.new.listens ≡ true }
+        ensures others { ListensOnly self.old self.new }
     {
         if self.listener.is_some() {
             return Ok(());
@@ -97,7 +101,7 @@ impl<'a, R: Net + Clock> TcpDoor<'a, R> {
 
 impl<'a, R: Net + Clock> Door for TcpDoor<'a, R> {
     ghost use Rattle.std.specs.Prelude.{None};
-    ghost use Rattle.edge_io.specs.Tcp.{CountsDown};
+    ghost use Rattle.edge_io.specs.Tcp.{IsAccepted, FailsOnly};
 
     ghost visits = { λ _. None };
 
@@ -107,7 +111,7 @@ impl<'a, R: Net + Clock> Door for TcpDoor<'a, R> {
         ensures cause { HasCause self.old.faults.accept self.new.faults.accept result }
         ensures reads { self.new.faults.read ≡ self.old.faults.read }
         ensures writes { self.new.faults.write ≡ self.old.faults.write }
-        ensures counted { CountsDown self.old.to_come result self.new.to_come }
+        ensures accepted { IsAccepted self.old result self.new }
     {
         self.hang_up();
         let Some(behind) = self.to_come.checked_sub(1) else {
@@ -136,7 +140,8 @@ impl<'a, R: Net + Clock> Door for TcpDoor<'a, R> {
         ensures accepts { self.new.faults.accept ≡ self.old.faults.accept }
         ensures cause { HasCause self.old.faults.read self.new.faults.read result }
         ensures writes { self.new.faults.write ≡ self.old.faults.write }
-        ensures others { self.new.to_come ≡ self.old.to_come }
+        ensures needs { self.old.connected ≡ false → IsErr result }
+        ensures others { FailsOnly self.old self.new }
     {
         let done = match &mut self.stream {
             Some(stream) => read_again(stream, into),
@@ -157,7 +162,8 @@ impl<'a, R: Net + Clock> Door for TcpDoor<'a, R> {
         ensures accepts { self.new.faults.accept ≡ self.old.faults.accept }
         ensures reads { self.new.faults.read ≡ self.old.faults.read }
         ensures cause { HasCause self.old.faults.write self.new.faults.write result }
-        ensures others { self.new.to_come ≡ self.old.to_come }
+        ensures needs { self.old.connected ≡ false → IsErr result }
+        ensures others { FailsOnly self.old self.new }
     {
         let done = match &mut self.stream {
             Some(stream) => write_again(stream, bytes),
@@ -174,7 +180,9 @@ impl<'a, R: Net + Clock> Door for TcpDoor<'a, R> {
 
     fn hang_up(&mut self)
         ensures same { self.new.faults ≡ self.old.faults }
-        ensures others { self.new.to_come ≡ self.old.to_come }
+        ensures ended { self.new.connected ≡ false }
+        ensures to_come { self.new.to_come ≡ self.old.to_come }
+        ensures listens { self.new.listens ≡ self.old.listens }
     {
         if let Some(mut stream) = self.stream.take() {
             part(self.runtime, &mut stream);

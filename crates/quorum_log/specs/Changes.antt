@@ -15,7 +15,8 @@ framed_record bytes = num Little 4 (length bytes) ++ (bytes ++ 0 ∷ [])
 -- A half of version 2 without records, from behind its validity byte on.
 abbrev pub half_text : ℕ → ℕ → List ℕ → List ℕ → List ℕ
 half_text generation base state last =
-    num Little 8 generation ++ (num Little 8 (base + second_version) ++ (num Little 4 (length state) ++ (num Little 4 (length last) ++ (state ++ (last ++ 0 ∷ [])))))
+    num Little 8 generation ++ (num Little 8 (base + second_version)
+    ++ (num Little 4 (length state) ++ (num Little 4 (length last) ++ (state ++ (last ++ 0 ∷ [])))))
 
 abbrev pub with_record : Found → List ℕ → Found
 with_record x bytes = record x { records = x.records ++ record { at = tail_of x + 5; bytes = bytes } ∷ [] }

@@ -15,7 +15,8 @@
 use Rattle.std.specs.Prelude.{◌≡◌, ◌≢◌, ℕ, ◌+◌, ◌-◌, ◌<◌, ◌≤◌, ◌⊎◌, List, [], ◌∷◌, length, slice_index}
 use Rattle.quorum_log.specs.declared.found.Found.{Found}
 use Rattle.quorum_log.specs.declared.found.FoundRecord.{FoundRecord}
-use Rattle.quorum_log.specs.Layout.{window, number_at, magic, half_size, half_at, IsCap, image_size, most_record, most_records, version_of, base_of, next_generation}
+use Rattle.registry_defs.specs.Contents.{IsCap}
+use Rattle.quorum_log.specs.Layout.{window, number_at, magic, half_size, half_at, image_size, most_record, most_records, version_of, base_of, next_generation}
 
 abbrev pub start_of : Found → ℕ
 start_of x = half_at x.cap x.half

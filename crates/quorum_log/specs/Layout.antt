@@ -1,5 +1,5 @@
 -- Where the parts of a log image lie, and numbers and bytes by their place in it.
-use Rattle.std.specs.Prelude.{ℕ, zero, suc, ◌+◌, ◌*◌, ◌-◌, ◌%◌, ◌^◌, ◌≤◌, nat_lt, if◌then◌else◌, List, [], ◌∷◌, drop, slice_index}
+use Rattle.std.specs.Prelude.{ℕ, zero, suc, ◌+◌, ◌*◌, ◌-◌, ◌%◌, ◌^◌, nat_lt, if◌then◌else◌, List, [], ◌∷◌, drop, slice_index}
 use Rattle.wire_fields.specs.declared.endian.Endian.TheVariants.{Little}
 use Rattle.wire_fields.specs.Numbers.{number}
 
@@ -23,10 +23,6 @@ half_size cap = cap + 327_680
 -- Where the half begins. Behind half 1 the image ends.
 abbrev pub half_at : ℕ → ℕ → ℕ
 half_at cap half = 64 + half * half_size cap
-
--- The caps that a log may have, the greatest sizes of its state.
-abbrev pub IsCap : ℕ → Type 0
-IsCap cap = (4096 ≤ cap) × (cap ≤ 16_777_216)
 
 abbrev pub image_size : ℕ → ℕ
 image_size cap = 2 * cap + 655_424

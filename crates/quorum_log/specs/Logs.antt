@@ -2,7 +2,8 @@
 use Rattle.std.specs.Prelude.{◌≡◌, ℕ, ◌+◌, ◌-◌, ◌<◌, ◌≤◌, ◌⊎◌, Bool, true, IsTrue, not, ◌==◌, [], length, slice_index}
 use Rattle.disk_core.specs.Views.{DiskView}
 use Rattle.quorum_log.specs.declared.found.Found.{Found}
-use Rattle.quorum_log.specs.Layout.{half_size, half_at, IsCap, most_record, most_records, next_generation}
+use Rattle.registry_defs.specs.Contents.{IsCap}
+use Rattle.quorum_log.specs.Layout.{half_size, half_at, most_record, most_records, next_generation}
 use Rattle.quorum_log.specs.Image.{Holds, tail_of, other_of}
 
 pub record LogValue : Type 0 where

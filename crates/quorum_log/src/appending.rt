@@ -24,10 +24,13 @@ impl Log {
         requires fits { Fits self (length bytes.now) }
         requires few { self.base + self.records < most_records }
         requires disk_size { image_size self.cap ≤ (D.view disk.old).size }
-        ensures any_moment { (x : Found) → StandsFor self (D.view disk.old) x → Passes (IsInChange (D.view disk.old).current.held x (with_record x bytes.now)) (D.view disk.old) (D.view disk.new) }
+        ensures any_moment { (x : Found) → StandsFor self (D.view disk.old) x → Passes (IsInChange (D.view disk.old).current.held x (with_record x bytes.now))
+            (D.view disk.old) (D.view disk.new) }
         ensures appended { (x : Found) → StandsFor self (D.view disk.old) x → IfOk result (λ log. StandsFor log (D.view disk.new) (with_record x bytes.now)) }
         ensures answer { AnsweredBy self.claim (D.view disk.old) (disk_answer result) (D.view disk.new) }
-        ensures calls { Made (write self.claim (self.tail + 1) (framed_record bytes.now) ∷ sync self.claim ∷ write self.claim self.tail (1 ∷ []) ∷ sync self.claim ∷ []) (D.view disk.old) (disk_answer result) (D.view disk.new) }
+        ensures calls { Made
+            (write self.claim (self.tail + 1) (framed_record bytes.now) ∷ sync self.claim ∷ write self.claim self.tail (1 ∷ []) ∷ sync self.claim ∷ [])
+            (D.view disk.old) (disk_answer result) (D.view disk.new) }
         ensures value { IfOk result (λ log. log ≡ appended self (length bytes.now)) }
         ensures held { (D.view disk.new).current.held ≡ (D.view disk.old).current.held }
         ensures same { SameDisk (D.view disk.old) (D.view disk.new) }

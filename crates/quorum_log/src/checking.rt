@@ -13,7 +13,9 @@ use std::alloc::Global;
 /// Checks the header of an image on a disk of that size, and tells the cap.
 pub(crate) fn check_header(header: &[u8], size: u64) -> Result<u32, OpenFault>
     requires { 64 ≤ length header.now }
-    ensures { MatchResult result (λ cap. (slice_index header.now 0 ≢ 0) × (checks.first_bad (checks.header_checks header.now size) ≡ None) × (cap ≡ layout.number_at header.now 12 4)) (checks.HeaderFault header.now size) }
+    ensures { MatchResult result
+        (λ cap. (slice_index header.now 0 ≢ 0) × (checks.first_bad (checks.header_checks header.now size) ≡ None) × (cap ≡ layout.number_at header.now 12 4))
+        (checks.HeaderFault header.now size) }
 {
     if header[0] == 0 {
         return Err(OpenFault::Blank);
@@ -59,7 +61,8 @@ fn is_next(image: &[u8], cap: u32, half: u8) -> bool
 
 fn check_halves(image: &[u8], cap: u32) -> Result<(), OpenFault>
     requires whole { layout.image_size cap ≤ length image.now }
-    ensures { MatchResult result (λ _. checks.first_bad (checks.halves_checks image.now cap) ≡ None) (readings.BadAt (checks.first_bad (checks.halves_checks image.now cap))) }
+    ensures { MatchResult result
+        (λ _. checks.first_bad (checks.halves_checks image.now cap) ≡ None) (readings.BadAt (checks.first_bad (checks.halves_checks image.now cap))) }
 {
     let first = is_valid(image, cap, 0);
     let second = is_valid(image, cap, 1);
@@ -91,7 +94,8 @@ fn current_half(image: &[u8], cap: u32) -> u8
 /// The lengths of the state and of the last record in the half that begins there.
 fn read_lengths(image: &[u8], cap: u32, start: u64) -> Result<(u64, u64), OpenFault>
     requires { start + 25 ≤ length image.now }
-    ensures { MatchResult result (λ sizes. readings.AreLengths image.now cap start sizes.0 sizes.1) (readings.BadAt (checks.first_bad (checks.length_checks image.now cap start))) }
+    ensures { MatchResult result
+        (λ sizes. readings.AreLengths image.now cap start sizes.0 sizes.1) (readings.BadAt (checks.first_bad (checks.length_checks image.now cap start))) }
 {
     let state = read_u32(image, start + 17);
     if state > cap {

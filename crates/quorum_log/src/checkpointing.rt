@@ -28,8 +28,10 @@ impl Log {
         requires last { length last.now ≤ most_record }
         requires none { (last.now ≡ []) ↔ (self.base + self.records ≡ 0) }
         requires disk_size { image_size self.cap ≤ (D.view disk.old).size }
-        ensures any_moment { (x : Found) → StandsFor self (D.view disk.old) x → Passes (IsInChange (D.view disk.old).current.held x (with_checkpoint x state.now last.now)) (D.view disk.old) (D.view disk.new) }
-        ensures begun { (x : Found) → StandsFor self (D.view disk.old) x → IfOk result (λ log. StandsFor log (D.view disk.new) (with_checkpoint x state.now last.now)) }
+        ensures any_moment { (x : Found) → StandsFor self (D.view disk.old) x →
+            Passes (IsInChange (D.view disk.old).current.held x (with_checkpoint x state.now last.now)) (D.view disk.old) (D.view disk.new) }
+        ensures begun { (x : Found) → StandsFor self (D.view disk.old) x → IfOk result
+            (λ log. StandsFor log (D.view disk.new) (with_checkpoint x state.now last.now)) }
         ensures answer { AnsweredBy self.claim (D.view disk.old) (disk_answer result) (D.view disk.new) }
         ensures calls { let other = half_at self.cap (1 - self.half) in
             Made (closing self.other_valid self.claim other
@@ -90,7 +92,8 @@ fn replace<D: Disk>(
 ) -> Result<(), DiskFault>
     requires room { at + 1 + length text.now ≤ (D.view disk.old).size }
     requires small { at < 2 ^ 63 }
-    ensures { Made (closing is_valid claim at ++ write claim (at + 1) text.now ∷ sync claim ∷ write claim at (1 ∷ []) ∷ sync claim ∷ []) (D.view disk.old) result (D.view disk.new) }
+    ensures { Made (closing is_valid claim at ++ write claim (at + 1) text.now ∷ sync claim ∷ write claim at (1 ∷ []) ∷ sync claim ∷ [])
+        (D.view disk.old) result (D.view disk.new) }
 {
     close(disk, claim, at, is_valid)?;
     write_then_commit(disk, claim, at + 1, text, at)

@@ -3,6 +3,7 @@ ghost use Rattle.std.specs.Prelude.{◌≡◌, ◌+◌, ◌≤◌, [], ◌∷◌
 ghost use Rattle.disk_core.specs.Images.{EachImage};
 ghost use Rattle.disk_core.specs.Views.{Passes};
 ghost use Rattle.disk_core.specs.Calls.{Made, SameDisk, write};
+ghost use Rattle.registry_defs.specs.Contents.{IsCap};
 ghost use Rattle.quorum_log.specs.Layout as layout;
 ghost use Rattle.quorum_log.specs.Faults.{AnsweredBy};
 ghost use Rattle.quorum_log.specs.Formats.{front_text, body_calls, renewing, ReadsByte, FormatCalls, IsInFormat, IsFormatted};
@@ -23,10 +24,11 @@ const FRONT: usize = 88;
 ///
 /// Meanwhile a crash leaves no log, the new one, or what it could have left before.
 pub fn format<D: Disk>(disk: &mut D, claim: u32, cap: u32, first: &[u8]) -> Result<(), DiskFault>
-    requires cap { layout.IsCap cap }
+    requires cap { IsCap cap }
     requires first { length first.now ≤ cap }
     requires disk_size { layout.image_size cap ≤ (D.view disk.old).size }
-    ensures any_moment { IsTrue (D.view disk.old).tells → Passes (EachImage (IsInFormat (D.view disk.old).current cap first.now)) (D.view disk.old) (D.view disk.new) }
+    ensures any_moment { IsTrue (D.view disk.old).tells → Passes (EachImage (IsInFormat (D.view disk.old).current cap first.now))
+        (D.view disk.old) (D.view disk.new) }
     ensures formatted { IsTrue (D.view disk.old).tells → IsOk result → IsFormatted cap first.now (D.view disk.new) }
     ensures claimed { IsOk result → (D.view disk.new).current.held ≡ claim }
     ensures answer { AnsweredBy claim (D.view disk.old) result (D.view disk.new) }
@@ -103,7 +105,8 @@ fn write_parts<D: Disk>(
 ) -> Result<(), DiskFault>
     requires front { 88 ≤ length text.now }
     requires size { 90 + length first.now ≤ (D.view disk.old).size }
-    ensures { Made (write claim 1 (take 88 text.now) ∷ write claim 89 first.now ∷ write claim (89 + length first.now) (0 ∷ []) ∷ []) (D.view disk.old) result (D.view disk.new) }
+    ensures { Made (write claim 1 (take 88 text.now) ∷ write claim 89 first.now ∷ write claim (89 + length first.now) (0 ∷ []) ∷ [])
+        (D.view disk.old) result (D.view disk.new) }
 {
     disk.write(claim, 1, &text[..FRONT])?;
     disk.write(claim, 89, first)?;

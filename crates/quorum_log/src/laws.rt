@@ -23,5 +23,6 @@ pub fn held_log_is_good()
 
 /// A record fits behind a checkpoint.
 pub fn record_fits_after_checkpoint()
-    ensures { (log : LogValue) (state last count : ℕ) → (log.half ≡ 0) ⊎ (log.half ≡ 1) → state ≤ log.cap → last ≤ most_record → count ≤ most_record → Fits (begun log state last) count }
+    ensures { (log : LogValue) (state last count : ℕ) → (log.half ≡ 0) ⊎ (log.half ≡ 1) → state ≤ log.cap → last ≤ most_record → count ≤ most_record
+        → Fits (begun log state last) count }
 {}

@@ -55,7 +55,8 @@ impl Model for Log {
 impl Log {
     ghost use Rattle.std.specs.Prelude.{◌≤◌, ◌^◌, IfOk};
     ghost use Rattle.std.specs.Prelude.{length};
-    ghost use Rattle.quorum_log.specs.Layout.{IsCap, most_records};
+    ghost use Rattle.registry_defs.specs.Contents.{IsCap};
+    ghost use Rattle.quorum_log.specs.Layout.{most_records};
     ghost use Rattle.quorum_log.specs.Image.{tail_of, end_of};
     ghost use Rattle.quorum_log.specs.Logs.{Fits, log_of};
 

@@ -42,7 +42,8 @@ impl Log {
 /// Reads the image in two reads, of the header and of what is behind it, and tells the cap.
 fn read_image<D: Disk>(alloc: Global, disk: &mut D) -> Result<(Vec<u8>, u32), OpenFault>
     requires { 64 ≤ (D.view disk.old).size }
-    ensures calls { MatchResult result (λ read. ReadsWhole read.0.items (D.view disk.old) (D.view disk.new)) (λ fault. ReadsImage (D.view disk.old) (Err fault) (D.view disk.new)) }
+    ensures calls { MatchResult result (λ read. ReadsWhole read.0.items (D.view disk.old) (D.view disk.new))
+        (λ fault. ReadsImage (D.view disk.old) (Err fault) (D.view disk.new)) }
     ensures only_read { OnlyRead (D.view disk.old) (D.view disk.new) }
     ensures image { MatchResult result (λ read. IsRead (D.view disk.old) read.0.items read.1) (ReadFails (D.view disk.old) (D.view disk.new)) }
 {
@@ -59,7 +60,8 @@ fn read_rest<D: Disk>(disk: &mut D, header: &[u8], image: &mut Vec<u8>) -> Resul
     requires header { length header.now ≡ 64 }
     requires room { 64 ≤ length image.old.items }
     requires size { length image.old.items ≤ (D.view disk.old).size }
-    ensures { (rest : List ℕ) × (64 + length rest ≡ length image.old.items) × ReadStep (D.view disk.old) 64 rest result (D.view disk.new) × (IsOk result → image.new.items ≡ header.now ++ rest) }
+    ensures { (rest : List ℕ) × (64 + length rest ≡ length image.old.items) × ReadStep (D.view disk.old) 64 rest result (D.view disk.new)
+        × (IsOk result → image.new.items ≡ header.now ++ rest) }
 {
     add(image, 0, header);
     disk.read(64, &mut image[HEADER..])

@@ -41,7 +41,8 @@ new_key place stamp part = record { part = part; birth = place; written = stamp;
 -- New keys with these names, each below the one before it, the first one below the path.
 abbrev pub chain_made : ℕ → ℕ → List (List ℕ) → List (List ℕ) → Keys → Keys
 chain_made place stamp path [] keys = keys
-chain_made place stamp path (part ∷ parts) keys = chain_made place stamp (below path part) parts (put path_cmp (below path part) (new_key place stamp part) keys)
+chain_made place stamp path (part ∷ parts) keys =
+    chain_made place stamp (below path part) parts (put path_cmp (below path part) (new_key place stamp part) keys)
 
 -- All keys that are missing on the way down from the path, which is there. The last one that was there is stamped.
 abbrev pub created : ℕ → ℕ → List (List ℕ) → List (List ℕ) → Keys → Keys

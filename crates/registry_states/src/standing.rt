@@ -87,7 +87,8 @@ impl Standing {
         requires within { self.now.taken + length self.now.pending ≤ cap }
         requires few { length bytes.now ≤ cap + 1 }
         ensures grew { Grew items.old.items items.new.items }
-        ensures piece { (stream piece : List ℕ) → bytes.now ≡ bytes_behind cap self.now piece → Stands cap items.old.items self.now stream → PieceIs result cap items.new.items (stream ++ piece) }
+        ensures piece { (stream piece : List ℕ) → bytes.now ≡ bytes_behind cap self.now piece → Stands cap items.old.items self.now stream
+            → PieceIs result cap items.new.items (stream ++ piece) }
         ensures within { IfOk result (λ standing. standing.taken + length standing.pending ≤ cap) }
         ensures short { IfOk result (λ standing. length standing.pending ≤ longest_item) }
     {

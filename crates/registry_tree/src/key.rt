@@ -101,7 +101,8 @@ impl Key {
 
     /// The key at a path from this one.
     pub fn find(&self, path: &[u16]) -> Option<&Key>
-        ensures found { MatchOption result (key_at (path_of path.now) (keys_of self.now) ≡ None) (λ key. key_at (path_of path.now) (keys_of self.now) ≡ Some key.now.here) }
+        ensures found { MatchOption result (key_at (path_of path.now) (keys_of self.now) ≡ None)
+            (λ key. key_at (path_of path.now) (keys_of self.now) ≡ Some key.now.here) }
         ensures section { IfSome result (λ key. keys_of key.now ≡ section (path_of path.now) (keys_of self.now)) }
     {
         match split_first_part(path) {

@@ -30,7 +30,8 @@ impl Key {
     /// What a value of so many bytes adds to this key's size where it is set, and what it gives free.
     pub fn value_growth(&self, name: &Name, count: usize, stamp: u64) -> Growth
         requires small { count < 2 ^ 32 }
-        ensures exact { (path : List (List ℕ)) (kind : ℕ) (bytes : List ℕ) → length bytes ≡ count → key_size path (with_value name.now kind bytes stamp self.now.here) + result.freed ≡ key_size path self.now.here + result.added }
+        ensures exact { (path : List (List ℕ)) (kind : ℕ) (bytes : List ℕ) → length bytes ≡ count
+            → key_size path (with_value name.now kind bytes stamp self.now.here) + result.freed ≡ key_size path self.now.here + result.added }
         ensures bound { result.added < 2 ^ 33 }
     {
         let units = name.units();
@@ -51,8 +52,11 @@ impl Key {
 
     /// The same where a value is deleted; None where it isn't there.
     pub fn value_removal(&self, name: &[u16], stamp: u64) -> Option<Growth>
-        ensures found { MatchOption result (is_some (value_at (folded name.now) self.now.here.values) ≡ false) (λ growth. is_some (value_at (folded name.now) self.now.here.values) ≡ true) }
-        ensures exact { IfSome result (λ growth. (path : List (List ℕ)) → key_size path (without_value name.now stamp self.now.here) + growth.freed ≡ key_size path self.now.here + growth.added) }
+        ensures found { MatchOption result (is_some (value_at (folded name.now) self.now.here.values) ≡ false)
+            (λ growth. is_some (value_at (folded name.now) self.now.here.values) ≡ true) }
+        ensures exact { IfSome result
+            (λ growth. (path : List (List ℕ)) → key_size path (without_value name.now stamp self.now.here) + growth.freed
+            ≡ key_size path self.now.here + growth.added) }
         ensures bound { IfSome result (λ growth. growth.added ≤ 8) }
     {
         match search_values(&self.values, name) {

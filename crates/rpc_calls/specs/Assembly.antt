@@ -27,9 +27,6 @@ goes_on unfinished item = Ok (unfinished, item)
 abbrev pub no_call : Option Call
 no_call = None
 
-abbrev pub no_item : Option Item
-no_item = None
-
 -- Behind its last fragment a call is an item, and before that it is unfinished.
 abbrev pub finished_if : Bool → Call → Outcome
 finished_if true call = goes_on None (Some (items.Call call))

@@ -13,6 +13,7 @@ use crate::side::Side;
 use byteorder::{BigEndian, ByteOrder, LittleEndian};
 use rpc_pdu::{Head, Pdu, PduFault, PduType, decode, peek};
 use std::alloc::Global;
+use wire_fields::Octets;
 
 /// How long a header is, and so the shortest frame.
 const HEADER_LENGTH: usize = 16;
@@ -145,13 +146,7 @@ fn take_part(
                 },
             ),
         ) => {
-            let fragment = Call {
-                context,
-                opnum,
-                call_id: head.call_id,
-                endian: head.endian,
-                stub,
-            };
+            let fragment = fragment_in(&head, context, opnum, stub);
             join(fragment, head, unfinished, place)
         }
         (
@@ -166,13 +161,7 @@ fn take_part(
                 },
             ),
         ) => {
-            let fragment = Call {
-                context,
-                opnum: 0,
-                call_id: head.call_id,
-                endian: head.endian,
-                stub,
-            };
+            let fragment = fragment_in(&head, context, 0, stub);
             join(fragment, head, unfinished, place)
         }
         (_, Item::Single(Pdu::Orphaned { head })) => {
@@ -180,6 +169,19 @@ fn take_part(
             Ok(Some(Item::Single(Pdu::Orphaned { head })))
         }
         (_, other) => Ok(Some(other)),
+    }
+}
+
+/// What a fragment holds of its call.
+fn fragment_in(head: &Head, context: u16, opnum: u16, stub: Octets) -> Call
+    ensures { result ≡ record { context = context; opnum = opnum; call_id = head.now.call_id; endian = head.now.endian; stub = stub } }
+{
+    Call {
+        context,
+        opnum,
+        call_id: head.call_id,
+        endian: head.endian,
+        stub,
     }
 }
 

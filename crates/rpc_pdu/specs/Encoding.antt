@@ -128,7 +128,8 @@ BodyInRange (Bind head xmit recv group proposals) = (xmit < 256 ^ 2) × (recv < 
 BodyInRange (BindAck head xmit recv group address verdicts) = (xmit < 256 ^ 2) × (recv < 256 ^ 2) × (group < 256 ^ 4) × AllByRecursion VerdictInRange verdicts
 BodyInRange (BindNak head reason versions) = (reason < 256 ^ 2) × AllByRecursion VersionInRange versions
 BodyInRange (AlterContext head xmit recv group proposals) = (xmit < 256 ^ 2) × (recv < 256 ^ 2) × (group < 256 ^ 4) × AllByRecursion ProposalInRange proposals
-BodyInRange (AlterContextResp head xmit recv group address verdicts) = (xmit < 256 ^ 2) × (recv < 256 ^ 2) × (group < 256 ^ 4) × AllByRecursion VerdictInRange verdicts
+BodyInRange (AlterContextResp head xmit recv group address verdicts) = (xmit < 256 ^ 2) × (recv < 256 ^ 2) × (group < 256 ^ 4)
+    × AllByRecursion VerdictInRange verdicts
 BodyInRange (Shutdown head) = Unit {0}
 BodyInRange (CoCancel head) = Unit {0}
 BodyInRange (Orphaned head) = Unit {0}

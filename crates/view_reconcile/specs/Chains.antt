@@ -17,9 +17,11 @@ pub record IsChain (chain : List View) : Type 0 where
   pub numbered : (a : ℕ) (v : View) → view_in chain a ≡ Some v → v.number ≡ a
   pub peopled : (a : ℕ) (v : View) → view_in chain a ≡ Some v → v.members ≢ []
   -- Each incarnation stands in one unbroken run of views.
-  pub unbroken : (a b c : ℕ) (u v w : View) (node inc : ℕ) → view_in chain a ≡ Some u → view_in chain b ≡ Some v → view_in chain c ≡ Some w → a ≤ b → b ≤ c → 0 < inc → inc_of u.members node ≡ inc → inc_of w.members node ≡ inc → inc_of v.members node ≡ inc
+  pub unbroken : (a b c : ℕ) (u v w : View) (node inc : ℕ) → view_in chain a ≡ Some u → view_in chain b ≡ Some v → view_in chain c ≡ Some w → a ≤ b → b ≤ c
+      → 0 < inc → inc_of u.members node ≡ inc → inc_of w.members node ≡ inc → inc_of v.members node ≡ inc
   -- The incarnations of a node never fall.
-  pub rising : (a b : ℕ) (u v : View) (node : ℕ) → view_in chain a ≡ Some u → view_in chain b ≡ Some v → a ≤ b → 0 < inc_of v.members node → inc_of u.members node ≤ inc_of v.members node
+  pub rising : (a b : ℕ) (u v : View) (node : ℕ) → view_in chain a ≡ Some u → view_in chain b ≡ Some v → a ≤ b → 0 < inc_of v.members node
+      → inc_of u.members node ≤ inc_of v.members node
 
 -- The members of the last view.
 abbrev pub last_members : List View → List Member

@@ -67,7 +67,8 @@ impl Reconcile {
 
     /// The locker offers its log: the number of its records, and the place of the last one where it was sent too.
     /// `done` is how many records this node has applied, none where it has no state.
-    /// A member that pulls already keeps the bytes that it has. The locker itself hears its own offer. After [`Step::Ready`] and [`Step::Open`] the node is ready.
+    /// A member that pulls already keeps the bytes that it has. The locker itself hears its own offer. After
+    /// [`Step::Ready`] and [`Step::Open`] the node is ready.
     pub fn offer(&mut self, count: u64, last: Option<u64>, done: Option<u64>) -> Step
         ensures { (self.new, result) ≡ offered self.old count last done }
     {
