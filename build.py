@@ -5,6 +5,8 @@ It prints the path of the program on standard output and all else on standard er
 program was built from these very sources. The proofs run on a copy of the program's crates, in a folder that it
 names, so that all processors are used; what is proved there is kept for the next build.
 """
+import collections
+import concurrent.futures
 import fcntl
 import hashlib
 import os
@@ -25,6 +27,11 @@ KIT = "rattle-kit-13f"
 # processors don't make it much shorter: the last crates stand on one another and are proved in turn.
 FIRST_BUILD_MINUTES = 19
 PROOF_BYTES = 4 << 30
+# How many processors one proof makes use of, and how long it runs before it is told.
+MOST_JOBS = 8
+TOLD_AFTER_SECONDS = 3
+# How much of what a failed command said is told.
+LAST_LINES = 20
 CANNOT = 70
 
 
@@ -111,85 +118,104 @@ def copy_crates(work, crates):
     shutil.copyfile(TOP / "HANDLES", work / "HANDLES")
 
 
-def top_chain(crates, listed):
-    """The topmost crates that stand above all others: these are proved one after the other anyway."""
-    chain = []
+def lines_ahead(crates, listed):
+    """For each crate, lowest first, the lines of the longest chain of crates that stand on one another from it up."""
+    ahead = {}
     for crate in reversed(crates):
-        if len(all_below(crate, listed)) != len(crates) - len(chain) - 1:
-            break
-        chain.append(crate)
-    return chain
+        above = max((ahead[it] for it in crates if crate in listed[it]), default=0)
+        ahead[crate] = above + sum(it.read_bytes().count(b"\n") for it in files_of(crate))
+    return ahead
 
 
 class Progress:
     """Tells which crates are being proved, and how many are done of how many."""
 
-    def __init__(self, work, crates):
-        self.work, self.crates, self.begin = work, crates, time.time()
-        self.told, self.done, self.is_over = set(), 0, threading.Event()
+    def __init__(self, count):
+        self.count, self.done, self.begin = count, 0, time.time()
 
-    def watch(self):
-        while not self.is_over.wait(0.5):
-            for crate in self.crates:
-                self.look_at(crate)
+    def soon(self, crate):
+        """Tells that the crate is being proved, unless the timer is stopped before: it is done where nothing changed."""
+        timer = threading.Timer(TOLD_AFTER_SECONDS, self.is_begun, [crate])
+        timer.daemon = True
+        timer.start()
+        return timer
 
-    def look_at(self, crate):
-        """A library is being proved where its folder is new and not yet stamped."""
-        folder = self.work / "crates" / crate / "out" / "rlib"
-        try:
-            is_new = folder.stat().st_mtime >= self.begin - 1 and not (folder / "stamp").exists()
-        except OSError:
-            return
-        if is_new and crate not in self.told:
-            self.told.add(crate)
-            tell(f"proving {crate}, with {self.done} of {len(self.crates)} crates done after {self.minutes()}")
+    def is_begun(self, crate):
+        tell(f"proving {crate}, with {self.done} of {self.count} crates done after {self.minutes()}")
 
     def is_done(self, crate):
-        self.told.add(crate)
         self.done += 1
-        tell(f"{crate} is done, {self.done} of {len(self.crates)} crates after {self.minutes()}")
+        tell(f"{crate} is done, {self.done} of {self.count} crates after {self.minutes()}")
 
     def minutes(self):
         seconds = int(time.time() - self.begin)
         return f"{seconds // 60} min {seconds % 60:02} s"
 
 
-def run_rt(words, folder, log, on_line=lambda line: None):
-    """Runs the toolchain's command, keeps what it says in the log, and returns its status."""
+def run_rt(words, crate, work, log):
+    """Runs the toolchain's command in the folder of the crate, logs what it says behind the crate's name, and returns
+    its status and the last lines."""
+    last = collections.deque(maxlen=LAST_LINES)
     streams = {"stdin": subprocess.DEVNULL, "stdout": subprocess.PIPE, "stderr": subprocess.STDOUT}
-    with subprocess.Popen(["rt", *words], cwd=folder, text=True, errors="replace", **streams) as ran:
+    with subprocess.Popen(["rt", *words], cwd=work / "crates" / crate, text=True, errors="replace", **streams) as ran:
         for line in ran.stdout:
-            log.write(line)
+            line = f"{crate}: {line.rstrip()}"
+            last.append(line)
+            log.write(line + "\n")
             log.flush()
-            on_line(line)
-    return ran.returncode
+    return ran.returncode, list(last)
 
 
-def prove_crates(work, crates, chain, log):
-    """Proves all crates and builds the program in the work folder; returns whether both succeeded."""
-    progress = Progress(work, crates)
-    watcher = threading.Thread(target=progress.watch, daemon=True)
-    watcher.start()
+def prove_libraries(work, crates, listed, log, progress):
+    """Proves the crates, each behind those that it stands on: as many at once as there are processors, those with the
+    longest chain above them first. Where fewer are ready, each gets more of the processors. Returns what the first
+    command said at the end that failed, or nothing."""
+    ahead = lines_ahead(crates, listed)
+    waiting = sorted(crates, key=lambda it: -ahead[it])
+    done, running, free, failed = set(), {}, processors(), []
 
-    def on_line(line):
-        words = line.split()
-        if len(words) == 2 and words[0] == "==" and words[1] in crates:
-            progress.is_done(words[1])
+    def prove(crate, jobs):
+        timer = progress.soon(crate)
+        try:
+            return run_rt(["lib", "--jobs", str(jobs)], crate, work, log)
+        finally:
+            timer.cancel()
 
-    try:
-        wide = [it for it in crates if it not in chain]
-        if wide:
-            copy_crates(work, wide)
-            if run_rt(["all", "check", "--jobs", str(processors())], work, log, on_line):
-                return False
-        progress.done = len(wide)
-        copy_crates(work, crates)
-        tell(f"proving {' and '.join(reversed(chain))}, and building the program, after {progress.minutes()}")
-        # With an empty session the program ends with 0; any other status is one of rt's.
-        return run_rt(["run", "--", "session"], work / "crates" / "mscs", log) == 0
-    finally:
-        progress.is_over.set()
-        watcher.join()
+    with concurrent.futures.ThreadPoolExecutor(free) as pool:
+        while True:
+            ready = [it for it in waiting if done.issuperset(listed[it])][:free] if not failed else []
+            for place, crate in enumerate(ready):
+                share = -(-free // (len(ready) - place))
+                jobs = min(share, MOST_JOBS)
+                waiting.remove(crate)
+                free -= jobs
+                running[pool.submit(prove, crate, jobs)] = crate, jobs
+            if not running:
+                return failed
+            for ended in concurrent.futures.wait(running, return_when=concurrent.futures.FIRST_COMPLETED).done:
+                crate, jobs = running.pop(ended)
+                free += jobs
+                status, last = ended.result()
+                if status:
+                    failed = failed or last or [f"{crate}: rt ended with status {status}"]
+                else:
+                    done.add(crate)
+                    progress.is_done(crate)
+
+
+def prove_crates(work, crates, listed, log):
+    """Proves all crates, the program's last, and builds the program in the work folder. Returns what the command said
+    at the end that failed, or nothing."""
+    progress = Progress(len(crates))
+    copy_crates(work, crates)
+    *libraries, program = crates
+    failed = prove_libraries(work, libraries, listed, log, progress)
+    if failed:
+        return failed
+    tell(f"proving {program}, and building the program, after {progress.minutes()}")
+    # With an empty session the program ends with 0; any other status is one of rt's.
+    status, last = run_rt(["run", "--", "session"], program, work, log)
+    return (last or [f"{program}: rt ended with status {status}"]) if status else []
 
 
 def build(crates, listed, work, sources):
@@ -199,10 +225,10 @@ def build(crates, listed, work, sources):
     tell(f"the work is in {work}, the log of it in {log_path}")
     (work / "crates").mkdir(exist_ok=True)
     with open(log_path, "w") as log:
-        is_built = prove_crates(work, crates, top_chain(crates, listed), log)
+        failed = prove_crates(work, crates, listed, log)
     made = work / "crates" / "mscs" / "out" / "mscs"
-    if not is_built or not made.is_file():
-        for line in log_path.read_text().splitlines()[-20:]:
+    if failed or not made.is_file():
+        for line in failed:
             tell(line)
         fail(f"the program could not be built, so nothing was run; {log_path} has all that was said")
     install(made, sources)
