@@ -1,3 +1,5 @@
 pub mod Pieces
 pub mod Texts
 pub mod Folds
+pub mod Escapes
+pub mod UnitLaws

@@ -7,14 +7,14 @@ use Rattle.std.proofs.lemmas.List.Sums.{fails_before_first}
 use Rattle.std.proofs.lemmas.List.Splits.{slice_split_first, slice_split_none, length-slice_split}
 use Rattle.clus_names.specs.Parts.{is_separator, pieces_of, parts_of, without_empty_end}
 
-abbrev found : Bool → ℕ → Option ℕ
+abbrev pub found : Bool → ℕ → Option ℕ
 found within place = cond within (Some place) None
 
-some_at : (b : Bool) (n at : ℕ) → found b n ≡ Some at → (b ≡ true) × (n ≡ at)
+pub some_at : (b : Bool) (n at : ℕ) → found b n ≡ Some at → (b ≡ true) × (n ≡ at)
 some_at true n at e = (refl, cc)
 some_at false n at e = absurd cc
 
-none_at : (b : Bool) (n : ℕ) → found b n ≡ None → b ≡ false
+pub none_at : (b : Bool) (n : ℕ) → found b n ≡ None → b ≡ false
 none_at true n e = absurd cc
 none_at false n e = refl
 

@@ -2,3 +2,5 @@ pub mod Folding
 pub mod Parts
 pub mod Limits
 pub mod Faults
+pub mod UnitTexts
+pub mod UnitFaults

@@ -115,8 +115,8 @@ impl Registry {
         self.root().write_piece(offset as usize, into);
     }
 
-    /// The root, with all that is written of it.
-    fn root(&self) -> &Key
+    /// The root, with all that stands below it.
+    pub fn root(&self) -> &Key
         ensures keys { keys_of result.now ≡ keys_in self.now }
         ensures limits { IsRegistry (keys_in self.now) }
         ensures fits { size (keys_in self.now) ≤ self.now.cap }

@@ -93,6 +93,22 @@ impl Key {
         self.written
     }
 
+    /// Its values, in ascending order of their folded names.
+    pub fn values(&self) -> &[Value]
+        ensures entries { entries_of result.now ≡ self.now.here.values }
+        ensures rising { RisingValues result.now }
+    {
+        self.values.as_slice()
+    }
+
+    /// The keys right below it, in ascending order of their folded names.
+    pub fn subkeys(&self) -> &[Key]
+        ensures below { spread result.now ≡ self.now.below }
+        ensures rising { Rising name_cmp name_of result.now }
+    {
+        self.subkeys.as_slice()
+    }
+
     pub fn has_subkeys(&self) -> bool
         ensures { result ≡ nat_lt 1 (length (keys_of self.now)) }
     {
