@@ -79,6 +79,7 @@ with_left kept left = record {
   rest = kept.rest;
   left = left;
   place = kept.place;
+  last_place = kept.last_place;
   fault = kept.fault;
   unprocessed = kept.unprocessed;
   unfinished = kept.unfinished;

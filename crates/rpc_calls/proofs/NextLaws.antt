@@ -179,7 +179,7 @@ ends_waiting first old new after gone (same, waits, few) is =
     subst (λ (kept : Kept). Ends given_none first kept) after_is (waits_reported first old gone waits)
 
 behind_item : (first old new : Kept) (item : Item) → GoneOn first old → Goes old new (Some item) → (stream : List ℕ) (given : List Item) → Holds first stream given
-    → BehindItem new.side stream given item (length new.rest) (stub_length new.left)
+    → BehindItem new.side stream given item (length new.rest) (stub_length new.left) new.last_place
 behind_item first old new item gone goes stream given holds =
     let before = gone.carries stream given holds in
     let beyond = goes_beyond old new (Some item) stream given goes before in
@@ -190,6 +190,7 @@ behind_item first old new item gone goes stream given holds =
       frame = goes.frame;
       behind = new.rest;
       held = old.left;
+      stands = goes.last_place ∙ before.place;
       not_before = subst (λ (side : Side). Reads side stream before.frames given old.left (goes.frame ++ new.rest)) (sym goes.side) reads;
       here = record { left = new.left; rest = new.rest; reads = beyond.0; bytes = refl; stub = refl };
     }
@@ -214,6 +215,7 @@ keeping kept fault = record {
   rest = kept.rest;
   left = kept.left;
   place = kept.place;
+  last_place = kept.last_place;
   fault = Some fault;
   unprocessed = length kept.rest;
   unfinished = stub_length kept.left;

@@ -20,6 +20,8 @@ pub record Kept : Type 0 where
   pub left : Option Call
   -- where the rest stands in the stream
   pub place : ℕ
+  -- where the fragment stands that was taken last
+  pub last_place : ℕ
   pub fault : Option IntakeFault
   pub unprocessed : ℕ
   pub unfinished : ℕ
@@ -62,7 +64,7 @@ LastsIfAny (Some fault) = IsLasting fault
 
 -- An intake before its stream begins.
 abbrev pub fresh : Side → Kept
-fresh side = record { side = side; rest = []; left = None; place = 0; fault = None; unprocessed = 0; unfinished = 0 }
+fresh side = record { side = side; rest = []; left = None; place = 0; last_place = 0; fault = None; unprocessed = 0; unfinished = 0 }
 
 -- ---- feed
 
@@ -73,6 +75,7 @@ fed kept piece = record {
   rest = kept.rest ++ piece;
   left = kept.left;
   place = kept.place;
+  last_place = kept.last_place;
   fault = kept.fault;
   unprocessed = kept.unprocessed + length piece;
   unfinished = kept.unfinished;
@@ -110,13 +113,14 @@ KeepsFault (Err fault) new = new.fault ≡ Some fault
 abbrev pub GivesAgain : Result (Option Item) IntakeFault → Kept → Type 0
 GivesAgain result old = (fault : IntakeFault) → old.fault ≡ Some fault → result ≡ Err fault
 
--- Both numbers behind the frame where the item stands.
-pub record BehindItem (side : Side) (stream : List ℕ) (given : List Item) (item : Item) (unprocessed unfinished : ℕ) : Type 0 where
+-- Both numbers behind the frame where the item stands, and where this frame stands.
+pub record BehindItem (side : Side) (stream : List ℕ) (given : List Item) (item : Item) (unprocessed unfinished place : ℕ) : Type 0 where
   pub before : List (List ℕ)
   pub frame : List ℕ
   pub behind : List ℕ
   pub held : Option Call
   pub not_before : Reads side stream before given held (frame ++ behind)
+  pub stands : place ≡ length (concat before)
   pub here : Leave side stream (before ++ frame ∷ []) (given ++ item ∷ []) unprocessed unfinished
 
 -- Both numbers at the end of what can be read.
@@ -126,7 +130,7 @@ pub record AtEnd (side : Side) (stream : List ℕ) (given : List Item) (fault : 
   pub stops : StopsBy side (length (concat frames)) leave.left leave.rest fault
 
 abbrev pub Tells : Result (Option Item) IntakeFault → Kept → Kept → List ℕ → List Item → Type 0
-Tells (Ok (Some item)) old new stream given = BehindItem new.side stream given item new.unprocessed new.unfinished
+Tells (Ok (Some item)) old new stream given = BehindItem new.side stream given item new.unprocessed new.unfinished new.last_place
 Tells (Ok None) old new stream given = AtEnd new.side stream given no_fault new.unprocessed new.unfinished
 Tells (Err faults.Memory) old new stream given = (new.unprocessed ≡ old.unprocessed) × (new.unfinished ≡ old.unfinished)
 Tells (Err fault) old new stream given = AtEnd new.side stream given (Some fault) new.unprocessed new.unfinished
@@ -135,6 +139,11 @@ Tells (Err fault) old new stream given = AtEnd new.side stream given (Some fault
 abbrev pub FewWait : Result (Option Item) IntakeFault → Kept → Type 0
 FewWait (Ok None) new = length new.rest < 65536
 FewWait _ new = Unit {0}
+
+-- And these are all that is unprocessed.
+abbrev pub CountsRest : Result (Option Item) IntakeFault → Kept → Type 0
+CountsRest (Ok None) new = new.unprocessed ≡ length new.rest
+CountsRest _ new = Unit {0}
 
 -- The same of both numbers.
 abbrev pub NumbersAre : Result (Option Item) IntakeFault → Kept → Kept → Type 0

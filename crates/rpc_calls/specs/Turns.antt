@@ -18,6 +18,7 @@ reported kept = record {
   rest = kept.rest;
   left = kept.left;
   place = kept.place;
+  last_place = kept.last_place;
   fault = kept.fault;
   unprocessed = length kept.rest;
   unfinished = stub_length kept.left;
@@ -31,6 +32,7 @@ refused kept fault = record {
   rest = kept.rest;
   left = kept.left;
   place = kept.place;
+  last_place = kept.last_place;
   fault = Some fault;
   unprocessed = length kept.rest;
   unfinished = stub_length kept.left;
@@ -46,6 +48,7 @@ pub record Goes (old new : Kept) (item : Option Item) : Type 0 where
   pub does : taken old.side old.place old.left part ≡ goes_on new.left item
   pub side : new.side ≡ old.side
   pub place : new.place ≡ old.place + length frame
+  pub last_place : new.last_place ≡ old.place
   pub healthy : new.fault ≡ no_fault
   pub numbers : (new.unprocessed ≡ old.unprocessed) × (new.unfinished ≡ old.unfinished)
 

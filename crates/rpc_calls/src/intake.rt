@@ -3,7 +3,7 @@
 ghost use Rattle.std.specs.Prelude.{◌≡◌, ◌+◌, ◌<◌, ◌≤◌, ◌^◌, List, [], ℕ, length, IfErr, IfOk, IfSome, OnOk, ◌++◌};
 ghost use Rattle.rpc_calls.specs.declared.item.Item.{Item};
 ghost use Rattle.rpc_calls.specs.Assembly.{most_stub, stub_length};
-ghost use Rattle.rpc_calls.specs.Intakes.{FeedIs, FewWait, GivesAgain, Holds, KeepsFault, NextIs, NoMemoryInside, NumbersAre, Stays, fresh, most_unprocessed, stream_length};
+ghost use Rattle.rpc_calls.specs.Intakes.{CountsRest, FeedIs, FewWait, GivesAgain, Holds, KeepsFault, NextIs, NoMemoryInside, NumbersAre, Stays, fresh, most_unprocessed, stream_length};
 ghost use Rattle.rpc_calls.specs.Parts.{ItemFits};
 ghost use Rattle.rpc_calls.specs.Turns.{TurnIs, refused, reported};
 
@@ -33,6 +33,8 @@ pub struct Intake {
     left: Option<Call>,
     /// Where the rest stands in the stream.
     place: u64,
+    /// Where the fragment stands that was taken last.
+    last_place: u64,
     /// The fault that the stream has there, once it was found.
     fault: Option<IntakeFault>,
     unprocessed: usize,
@@ -51,6 +53,7 @@ impl Model for Intake {
       rest = intake.rest.items;
       left = intake.left;
       place = intake.place;
+      last_place = intake.last_place;
       fault = intake.fault;
       unprocessed = intake.unprocessed;
       unfinished = intake.unfinished;
@@ -77,6 +80,7 @@ impl Intake {
             rest: BytesMut::new(alloc),
             left: None,
             place: 0,
+            last_place: 0,
             fault: None,
             unprocessed: 0,
             unfinished: 0,
@@ -102,6 +106,7 @@ impl Intake {
         ensures stays { Stays self.old self.new }
         ensures few { IfOk result (λ item. IfSome item ItemFits) }
         ensures waits { FewWait result self.new }
+        ensures counts { CountsRest result self.new }
         // An item takes its frame, at the least, from the bytes that are kept.
         ensures shorter { IfOk result (λ item. IfSome item (λ _. length self.new.rest < length self.old.rest)) }
     {
@@ -129,6 +134,13 @@ impl Intake {
         ensures { result ≡ stream_length self.now }
     {
         self.place + self.rest.len() as u64
+    }
+
+    /// Where the last fragment stands in the stream of the item that was given last.
+    pub fn item_place(&self) -> u64
+        ensures { result ≡ self.now.last_place }
+    {
+        self.last_place
     }
 
     /// How many bytes of the stream lie behind the frame of the last item, or where `next` stopped.
@@ -186,6 +198,7 @@ impl Intake {
             }
         };
         self.rest.advance(size);
+        self.last_place = self.place;
         self.place += size as u64;
         Ok(Turn::Went(item))
     }
