@@ -25,6 +25,10 @@ fn birth_of(held: Option<&Held>) -> Option<u64> {
     held.map(|held| held.birth)
 }
 
+fn wire(attributes: u32, id: Uuid) -> WireHandle {
+    WireHandle { attributes, id }
+}
+
 #[test]
 fn a_handle_is_found_in_its_group_alone_until_it_is_closed(rt: HostRuntime) -> Result<(), Fail> {
     let alloc = rt.alloc();
@@ -43,22 +47,8 @@ fn a_handle_is_found_in_its_group_alone_until_it_is_closed(rt: HostRuntime) -> R
         (1, sent(2), None),
         (2, sent(2), Some(9)),
         (2, sent(3), None),
-        (
-            2,
-            WireHandle {
-                attributes: 1,
-                id: sent(2).id,
-            },
-            None,
-        ),
-        (
-            2,
-            WireHandle {
-                attributes: 0,
-                id: Uuid::from_bytes([0; 16]),
-            },
-            None,
-        ),
+        (2, wire(1, sent(2).id), None),
+        (2, wire(0, Uuid::from_bytes([0; 16])), None),
     ] {
         assert_eq!(rt; birth_of(handles.find(group, &handle)), birth);
     }
