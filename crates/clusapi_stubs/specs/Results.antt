@@ -98,9 +98,12 @@ abbrev pub target_at : Bool → Reading → Result (Option (List ℕ) × Reading
 target_at false s = Ok (None, s)
 target_at true s = string s >>= λ text. Ok (Some text.0, text.1)
 
+abbrev pub target : Reading → Result (Option (List ℕ) × Reading) NdrFault
+target s = pointer s >>= λ present. target_at present.0 present.1
+
 abbrev pub given_at : GivenKind → Reading → Result (Given × Reading) NdrFault
 given_at (APlain kind) s = value_at kind s >>= λ value. Ok (Plain value.0, value.1)
-given_at ATarget s = pointer s >>= λ present. target_at present.0 present.1 >>= λ text. Ok (Pointed text.0, text.1)
+given_at ATarget s = target s >>= λ text. Ok (Pointed text.0, text.1)
 
 -- Results of these kinds in turn, or the first fault.
 abbrev pub all_given_at : List GivenKind → Reading → Result (List Given × Reading) NdrFault

@@ -9,17 +9,20 @@
 mod asking;
 mod fault;
 mod input;
+mod laws;
 mod output;
 mod parameters;
 mod reading;
 mod replies;
 mod results;
+mod returned;
 mod values;
 mod writing;
 
 pub use asking::write_in;
 pub use fault::InFault;
 pub use input::In;
+pub use laws::{parameters_are_read, results_are_read};
 pub use output::Out;
 pub use reading::read_in;
 pub use replies::read_out;
