@@ -28,7 +28,7 @@ with_value value read = read >>= λ x. valued (value x.0) x.1
 
 -- ---- a value
 
-bytes_behind : (value : Value) (s t : Reading) → IsBytes s.left → Reads value s t → IsBytes t.left
+pub bytes_behind : (value : Value) (s t : Reading) → IsBytes s.left → Reads value s t → IsBytes t.left
 bytes_behind value s t h r =
     let all : IsBytes (r.bytes ++ t.left) = subst (λ (left : List ℕ). IsBytes left) r.parts h in
     let behind : IsBytes (drop (length r.bytes) (r.bytes ++ t.left)) = IsBytes-drop (length r.bytes) (r.bytes ++ t.left) all in
@@ -40,7 +40,7 @@ made {A} value read s v t law e =
     let x = bind_ok read (λ x. valued (value x.0) x.1) (v, t) e in
     subst (λ (y : Value × Reading). Reads y.0 s y.1) (ok_is (value x.0.0, x.0.1) (v, t) x.2) (law x.0.0 x.0.1 x.1)
 
-value_reads : (kind : Kind) (s : Reading) (v : Value) (t : Reading) → IsBytes s.left → value_at kind s ≡ Ok (v, t) → Reads v s t
+pub value_reads : (kind : Kind) (s : Reading) (v : Value) (t : Reading) → IsBytes s.left → value_at kind s ≡ Ok (v, t) → Reads v s t
 value_reads AText s v t h e = made Text (string s) s v t (λ a u. string_reads s a u h) e
 value_reads AnArray s v t h e = made Bytes (byte_array s) s v t (λ a u. bytes_reads s a u h) e
 value_reads APointer s v t h e = made Pointer (pointer s) s v t (λ a u. pointer_reads s a u h) e
@@ -56,7 +56,7 @@ kind_of (Handle handle) = AHandle
 kind_of (Number number) = ANumber
 kind_of (Time time) = ATime
 
-value_only : (v : Value) (s t : Reading) → Reads v s t → value_at (kind_of v) s ≡ Ok (v, t)
+pub value_only : (v : Value) (s t : Reading) → Reads v s t → value_at (kind_of v) s ≡ Ok (v, t)
 value_only (Text text) s t r = rw (string_only s text t r) refl
 value_only (Bytes bytes) s t r = rw (bytes_only s bytes t r) refl
 value_only (Pointer present) s t r = rw (pointer_only s present t r) refl

@@ -1,4 +1,6 @@
+pub mod EncodingLaws
 pub mod InputLaws
+pub mod OutputLaws
 pub mod Sizes
 pub mod Taking
 pub mod TextLaws

@@ -23,7 +23,7 @@ before_zero : (units : List ℕ) → lacks_zero (text_of units) ≡ true
 before_zero [] = refl
 before_zero (unit ∷ units) = front (unit == 0) unit (prefix_len (λ other. not (other == 0)) units) units refl (before_zero units)
 
-text_lacks_zero : (text : List ℕ) (s t : Reading) → Reads (Text text) s t → LacksZero text
+pub text_lacks_zero : (text : List ℕ) (s t : Reading) → Reads (Text text) s t → LacksZero text
 text_lacks_zero text s t r = rw r.spelled.before_end (before_zero r.spelled.sent)
 
 pub lack_zero : (input : In) (s t : Reading) → ReadsAll (parameters input) s t → LackZero input

@@ -3,3 +3,5 @@ pub mod Inputs
 pub mod Kinds
 pub mod Outputs
 pub mod Parameters
+pub mod Requests
+pub mod Results

@@ -1,10 +1,12 @@
-//! The values that parameters are made of.
+//! The values that parameters and results are made of.
 
-ghost use Rattle.ndr_values.specs.Reading.{Takes, TakesIn, byte_array, handle, number, string};
+ghost use Rattle.ndr_values.specs.Reading.{Takes, TakesIn, byte_array, handle, number, pointer, string, time};
+ghost use Rattle.clusapi_stubs.specs.Results.{target};
 
 use clus_names::Units;
 use ndr_values::{
-    NdrFault, ReadFault, WireHandle, read_bytes, read_handle, read_number, read_string,
+    NdrFault, ReadFault, WireHandle, read_bytes, read_handle, read_number, read_pointer,
+    read_string, read_time,
 };
 use std::alloc::Global;
 use wire_fields::{Fields, Octets};
@@ -31,4 +33,26 @@ pub(crate) fn array(alloc: Global, from: &mut Fields<'_>) -> Result<Octets, Read
     ensures { TakesIn (λ x. x) result (byte_array from.old) from.new }
 {
     Ok(Octets::new(read_bytes(alloc, from)?))
+}
+
+pub(crate) fn time(from: &mut Fields<'_>) -> Result<u64, NdrFault>
+    ensures { Takes (λ x. x) result (time from.old) from.new }
+{
+    read_time(from)
+}
+
+fn pointer(from: &mut Fields<'_>) -> Result<bool, NdrFault>
+    ensures { Takes (λ x. x) result (pointer from.old) from.new }
+{
+    read_pointer(from)
+}
+
+/// The text behind a pointer, None where it is null.
+pub(crate) fn target(alloc: Global, from: &mut Fields<'_>) -> Result<Option<Units>, ReadFault>
+    ensures { TakesIn (λ x. x) result (target from.old) from.new }
+{
+    if !pointer(from)? {
+        return Ok(None);
+    }
+    Ok(Some(text(alloc, from)?))
 }

@@ -1,4 +1,4 @@
-ghost use Rattle.std.specs.Prelude.{◌≡◌, ◌<◌, ℕ, None, true, false, IsOk, IsErr};
+ghost use Rattle.std.specs.Prelude.{◌≡◌, ◌+◌, ◌<◌, ℕ, None, true, false, IsOk, IsErr};
 ghost use Rattle.std.specs.Io.{ReadsAtMost, WritesAtMost};
 ghost use Rattle.causes.specs.Counts.{HasCause};
 ghost use Rattle.causes.specs.Writing.{TakesSome};
@@ -8,7 +8,7 @@ use crate::{Door, Failed};
 use std::io;
 use std::io::{ErrorKind, Read};
 use std::marker::Model;
-use std::net::{Net, OpenListener, OpenStream, Shutdown, TcpListener};
+use std::net::{Net, OpenListener, OpenStream, Shutdown, TcpListener, TcpStream};
 use std::time::{Clock, Duration, Instant};
 
 /// How many seconds a read or a write of a connection may wait for the client.
@@ -19,8 +19,8 @@ const MOST_PARTING: u64 = 2;
 
 const MOST_PIECES: u32 = 1024;
 
-/// The connections that come to a TCP address, up to a number of them. It tells nothing of what they
-/// hold.
+/// The connections that come to a TCP address, up to a number of them; or the one connection that it
+/// makes to an address. It tells nothing of what they hold.
 ///
 /// A read or a write that waits for 300 seconds fails. What a signal interrupts is tried again, and so
 /// is an `accept` that fails with the connection that was coming.
@@ -29,6 +29,7 @@ pub struct TcpDoor<'a, R: Net + Clock> {
     runtime: &'a R,
     address: String,
     to_come: u32,
+    dials: bool,
     listener: Option<R::Listener>,
     stream: Option<R::Stream>,
     failed_accepts: u64,
@@ -47,11 +48,12 @@ impl<'a, R: Net + Clock> Model for TcpDoor<'a, R> {
       to_come = d.to_come;
       listens = is_some d.listener;
       connected = is_some d.stream;
+      dials = d.dials;
     } };
 }
 
 impl<'a, R: Net + Clock> TcpDoor<'a, R> {
-    ghost use Rattle.edge_io.specs.Tcp.{ListensOnly, fresh_tcp};
+    ghost use Rattle.edge_io.specs.Tcp.{IsConnected, ListensOnly, fresh_dial, fresh_tcp};
 
     /// Listens at the address, and hands out so many connections. Makes no call of the system yet.
     pub fn at(runtime: &'a R, address: String, count: u32) -> TcpDoor<'a, R>
@@ -61,6 +63,7 @@ impl<'a, R: Net + Clock> TcpDoor<'a, R> {
             runtime,
             address,
             to_come: count,
+            dials: false,
             listener: None,
             stream: None,
             failed_accepts: 0,
@@ -69,13 +72,25 @@ impl<'a, R: Net + Clock> TcpDoor<'a, R> {
         }
     }
 
-    /// Begins to listen, where it doesn't yet, and waits for nothing.
+    /// Hands out one connection, which its first `accept` makes to the address. Makes no call of the
+    /// system yet.
+    pub fn dial(runtime: &'a R, address: String) -> TcpDoor<'a, R>
+        ensures { result ≡ fresh_dial }
+    {
+        TcpDoor {
+            dials: true,
+            ..TcpDoor::at(runtime, address, 1)
+        }
+    }
+
+    /// Begins to listen, where it doesn't yet, and waits for nothing. A door that dials has nothing to
+    /// listen for.
     pub fn listen(&mut self) -> Result<(), Failed>
         ensures cause { HasCause self.old.faults.accept self.new.faults.accept result }
-        ensures listens { IsOk result → self.new.listens ≡ true }
+        ensures listens { IsOk result → self.old.dials ≡ false → self.new.listens ≡ true }
         ensures others { ListensOnly self.old self.new }
     {
-        if self.listener.is_some() {
+        if self.dials || self.listener.is_some() {
             return Ok(());
         }
         match TcpListener::bind(self.runtime, self.address.as_str()) {
@@ -84,6 +99,31 @@ impl<'a, R: Net + Clock> TcpDoor<'a, R> {
                 Ok(())
             }
             Err(_) => {
+                self.failed_accepts = self.failed_accepts.saturating_add(1);
+                Err(Failed)
+            }
+        }
+    }
+
+    /// Connects, and hands out none behind this one.
+    fn connect(&mut self, behind: u32) -> Result<bool, Failed>
+        requires dials { self.now.dials ≡ true }
+        requires one { self.now.to_come ≡ behind + 1 }
+        requires alone { self.now.connected ≡ false }
+        ensures cause { HasCause self.old.faults.accept self.new.faults.accept result }
+        ensures reads { self.new.faults.read ≡ self.old.faults.read }
+        ensures writes { self.new.faults.write ≡ self.old.faults.write }
+        ensures connected { IsConnected self.old result self.new }
+        ensures way { self.new.dials ≡ self.old.dials }
+    {
+        match TcpStream::connect(self.runtime, self.address.as_str()) {
+            Ok(stream) => {
+                self.to_come = behind;
+                self.stream = Some(prepared(stream));
+                Ok(true)
+            }
+            Err(_) => {
+                self.to_come = 0;
                 self.failed_accepts = self.failed_accepts.saturating_add(1);
                 Err(Failed)
             }
@@ -112,11 +152,15 @@ impl<'a, R: Net + Clock> Door for TcpDoor<'a, R> {
         ensures reads { self.new.faults.read ≡ self.old.faults.read }
         ensures writes { self.new.faults.write ≡ self.old.faults.write }
         ensures accepted { IsAccepted self.old result self.new }
+        ensures way { self.new.dials ≡ self.old.dials }
     {
         self.hang_up();
         let Some(behind) = self.to_come.checked_sub(1) else {
             return Ok(false);
         };
+        if self.dials {
+            return self.connect(behind);
+        }
         self.listen()?;
         let accepted = match &self.listener {
             Some(listener) => accept_again(listener),
@@ -183,6 +227,7 @@ impl<'a, R: Net + Clock> Door for TcpDoor<'a, R> {
         ensures ended { self.new.connected ≡ false }
         ensures to_come { self.new.to_come ≡ self.old.to_come }
         ensures listens { self.new.listens ≡ self.old.listens }
+        ensures way { self.new.dials ≡ self.old.dials }
     {
         if let Some(mut stream) = self.stream.take() {
             part(self.runtime, &mut stream);

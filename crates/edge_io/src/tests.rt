@@ -111,6 +111,28 @@ fn a_tcp_door_hands_out_its_connections(rt: HostRuntime) -> Result<(), Fail> {
 fn a_tcp_door_without_an_address_fails(rt: HostRuntime) -> Result<(), Fail> {
     let mut door = TcpDoor::at(&rt, String::new(rt.alloc()), 1);
     let mut none = TcpDoor::at(&rt, String::new(rt.alloc()), 0);
+    let mut dialing = TcpDoor::dial(&rt, String::new(rt.alloc()));
     assert_eq!(rt; [door.accept(), none.accept()], [Err(Failed), Ok(false)]);
+    assert_eq!(rt;
+        [dialing.accept(), dialing.accept()],
+        [Err(Failed), Ok(false)]
+    );
+    Ok(())
+}
+
+#[test]
+fn a_tcp_door_dials_once(rt: HostRuntime) -> Result<(), Fail> {
+    let address = String::from_str(rt.alloc(), "127.0.0.1:0")?;
+    let mut server = TcpDoor::at(&rt, address, 1);
+    assert_eq!(rt; server.listen(), Ok(()));
+    let port = server.port().ok_or("a port")?;
+    let mut client = TcpDoor::dial(&rt, format!(in rt.alloc(); "127.0.0.1:{port}")?);
+    let met = [client.accept(), server.accept()];
+    let mut came = [b'-'; 4];
+    let moved = [client.write(b"abc"), server.read(&mut came)];
+    assert_eq!(rt; met, [Ok(true), Ok(true)]);
+    assert_eq!(rt; moved, [Ok(3), Ok(3)]);
+    assert_eq!(rt; &came, b"abc-");
+    assert_eq!(rt; client.accept(), Ok(false));
     Ok(())
 }

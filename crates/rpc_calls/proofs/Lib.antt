@@ -4,9 +4,9 @@ pub mod HoldingLaws
 pub mod ItemLaws
 pub mod NextLaws
 pub mod PartUniqueness
-pub mod ReplyLaws
 pub mod StreamItems
 pub mod StreamUniqueness
 pub mod CallLaws
 pub mod CallsOfStreams
 pub mod CuttingLaws
+pub mod SentLaws

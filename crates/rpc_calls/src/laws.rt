@@ -8,10 +8,10 @@ ghost use Rattle.rpc_calls.specs.declared.call.Call.{Call};
 ghost use Rattle.rpc_calls.specs.declared.intake_fault.IntakeFault.{IntakeFault};
 ghost use Rattle.rpc_calls.specs.declared.item.Item.{Item};
 ghost use Rattle.rpc_calls.specs.declared.side.Side.{Side};
-ghost use Rattle.rpc_calls.specs.declared.side.Side.TheVariants.{Client};
+ghost use Rattle.rpc_calls.specs.declared.side.Side.TheVariants.{Client, Server};
 ghost use Rattle.rpc_calls.specs.Assembly.{most_stub};
 ghost use Rattle.rpc_calls.specs.Calls.{ArePartsOf, ItemsAt, LeftIs};
-ghost use Rattle.rpc_calls.specs.Cutting.{replied, reply_pieces};
+ghost use Rattle.rpc_calls.specs.Cutting.{replied, reply_pieces, request_pieces, requested};
 ghost use Rattle.rpc_calls.specs.Intakes.{Holds, Kept, no_fault, stream_length};
 ghost use Rattle.rpc_calls.specs.Streams.{Items, Reads};
 
@@ -59,4 +59,10 @@ pub fn calls_are_their_fragments()
 pub fn replies_are_joined()
     ensures { (call_id context most : ℕ) (stub : List ℕ) → call_id < 256 ^ 4 → context < 256 ^ 2 → 8 ≤ most → most ≤ 5816 → length stub ≤ most_stub
         → Items Client (concat (map spelling (reply_pieces call_id context most stub))) (Item.Call (replied call_id context stub) ∷ []) no_fault }
+{}
+
+/// A request that was cut is, on the server's side, one call with its stub.
+pub fn requests_are_joined()
+    ensures { (call_id context opnum most : ℕ) (stub : List ℕ) → call_id < 256 ^ 4 → context < 256 ^ 2 → opnum < 256 ^ 2 → 8 ≤ most → most ≤ 5816 → length stub ≤ most_stub
+        → Items Server (concat (map spelling (request_pieces call_id context opnum most stub))) (Item.Call (requested call_id context opnum stub) ∷ []) no_fault }
 {}
