@@ -1,10 +1,11 @@
 -- The lines of a key by levels: its own lines, those of its subkeys one after the other, and its end.
-use Rattle.std.proofs.Common.{◌≡◌, ℕ, zero, suc, ◌+◌, ◌-◌, ◌<◌, List, [], ◌∷◌, ◌++◌, length, get_or, refl, sym, ap, subst, ◌∙◌, append_assoc, All, arith}
+use Rattle.std.proofs.Common.{◌≡◌, ℕ, zero, suc, ◌+◌, ◌-◌, ◌<◌, ◌≤◌, List, [], ◌∷◌, ◌++◌, length, get_or, refl, sym, ap, subst, ◌∙◌, append_assoc, All, arith}
 use Rattle.std.specs.Prelude.{codes, flat_map}
-use Rattle.std.specs.List.{AllByRecursion}
+use Rattle.std.specs.List.{AllByRecursion, list_all}
+use Rattle.std.proofs.lemmas.List.{append-nil}
 use Rattle.std.proofs.lemmas.List.Elements.{All-head, All-tail}
 use Rattle.std.proofs.lemmas.Bool.{lt-ltb}
-use Rattle.clus_names.specs.Limits.{LacksZero, IsPartUnit}
+use Rattle.clus_names.specs.Limits.{LacksZero, IsPartUnit, IsPart}
 use Rattle.registry_defs.specs.Keys.{KeyData, Keys}
 use Rattle.registry_defs.specs.Limits.{IsKey, IsNamed, IsRegistry}
 use Rattle.registry_defs.specs.Nodes.{Node, keys_of, name_of, under, spread}
