@@ -17,8 +17,8 @@ use Rattle.client_connections.specs.Items.{item_of}
 use Rattle.registry_machine.specs.Machine.{registry_machine}
 use Rattle.single_rules.specs.Single.{Single}
 use Rattle.single_items.specs.Alone.{AloneRun, alone, handles_behind, item_alone, takes_alone, took_alone}
-use Rattle.single_items.specs.Promises.{EndsFree, IsAlone, IsFree, IsFullIf, TellsAlone}
-use Rattle.single_items.specs.Standing.{Asked, Calm, FitsWay, Granting, GrownFrom, IsAllTaken, IsHeardOn, IsKeptFrom, Phase, Standing, StandsAt, Stuck, Way, clients_of, left_on, logged_on, node_on, promised_on, queued_on, standing, waiting_on}
+use Rattle.single_items.specs.Promises.{EndsUnconnected, IsAlone, IsUnconnected, IsFullIf, TellsAlone}
+use Rattle.single_items.specs.Standing.{Asked, Calm, FitsWay, Granting, GrownFrom, IsAllTaken, IsHeardOn, IsKeptFrom, Phase, NodeAlone, StandsAt, Stuck, Way, clients_of, left_on, logged_on, node_on, promised_on, queued_on, node_alone, waiting_on}
 use Rattle.single_items.proofs.Hearing.{sound_now}
 use Rattle.single_items.proofs.Served.{alone_both}
 
@@ -58,11 +58,11 @@ logged_quiet (Asked lately origin u) r left = refl
 logged_quiet (Granting origin u) r left = absurd (cc)
 logged_quiet (Stuck head others origins) r left = refl
 
-pub tells_alone : (c : ℕ) (first : AloneRun) (stream : List ℕ) (z : Standing) (output : List ℕ) (records : List Entry) → StandsAt c first stream z output records → TellsAlone c first stream z output records
+pub tells_alone : (c : ℕ) (first : AloneRun) (stream : List ℕ) (z : NodeAlone) (output : List ℕ) (records : List Entry) → StandsAt c first stream z output records → TellsAlone c first stream z output records
 tells_alone c first stream z output records h quiet all fault items =
     let w : Way = h.phase.way in
     let r : AloneRun = h.phase.run in
-    let left : left_on w r.single ≡ [] = sym (ap (λ (x : Standing). x.left) h.is) ∙ quiet in
+    let left : left_on w r.single ≡ [] = sym (ap (λ (x : NodeAlone). x.left) h.is) ∙ quiet in
     let is = run_is c first stream h.given all fault items w r h.phase.intake left h.promised h.heard in
     record {
       told = h.told ∙ ap (λ (x : AloneRun). x.output) (sym is);
@@ -75,19 +75,19 @@ full_if c (Asked lately origin u) r intake fits = tt
 full_if c (Granting origin u) r intake fits = tt
 full_if c (Stuck head others origins) r intake fits = fits.0
 
-pub ends_free : (c : ℕ) (first : AloneRun) (stream : List ℕ) (z : Standing) (output : List ℕ) (records : List Entry) → StandsAt c first stream z output records → EndsFree c first stream z
-ends_free c first stream z output records h quiet none all fault items =
+pub ends_unconnected : (c : ℕ) (first : AloneRun) (stream : List ℕ) (z : NodeAlone) (output : List ℕ) (records : List Entry) → StandsAt c first stream z output records → EndsUnconnected c first stream z
+ends_unconnected c first stream z output records h quiet none all fault items =
     let w : Way = h.phase.way in
     let r : AloneRun = h.phase.run in
-    let left : left_on w r.single ≡ [] = sym (ap (λ (x : Standing). x.left) h.is) ∙ quiet in
+    let left : left_on w r.single ≡ [] = sym (ap (λ (x : NodeAlone). x.left) h.is) ∙ quiet in
     let is = run_is c first stream h.given all fault items w r h.phase.intake left h.promised h.heard in
-    subst (λ (x : AloneRun). IsFree z x.single (handles_behind x) x.taken) (sym is) (free h.phase.intake refl left)
+    subst (λ (x : AloneRun). IsUnconnected z x.single (handles_behind x) x.taken) (sym is) (free h.phase.intake refl left)
   where
-    free : (intake : Option Kept) → h.phase.intake ≡ intake → left_on h.phase.way h.phase.run.single ≡ [] → IsFree z h.phase.run.single (handles_behind h.phase.run) h.phase.run.taken
+    free : (intake : Option Kept) → h.phase.intake ≡ intake → left_on h.phase.way h.phase.run.single ≡ [] → IsUnconnected z h.phase.run.single (handles_behind h.phase.run) h.phase.run.taken
     free None gone left = record {
       way = h.phase.way;
       left = left;
-      is = h.is ∙ ap (λ (intake : Option Kept). standing c (record { run = h.phase.run; way = h.phase.way; intake = intake })) gone
+      is = h.is ∙ ap (λ (intake : Option Kept). node_alone c (record { run = h.phase.run; way = h.phase.way; intake = intake })) gone
           ∙ ap (λ (l : List Sent). record { node = node_on h.phase.way h.phase.run.single; clients = clients_of c (waiting_on h.phase.way) h.phase.run None; left = l }) left;
       full = full_if c h.phase.way h.phase.run h.phase.intake h.fits;
       sound = sound_now first h.phase.run (queued_on h.phase.way) h.grown;
@@ -95,5 +95,5 @@ ends_free c first stream z output records h quiet none all fault items =
       items = h.grown.items;
     }
     free (Some kept) open_ left =
-        let e : z.clients.conns ≡ (c, client_of kept h.phase.run) ∷ [] = ap (λ (x : Standing). x.clients.conns) h.is ∙ ap (λ (intake : Option Kept). (clients_of c (waiting_on h.phase.way) h.phase.run intake).conns) open_ in
+        let e : z.clients.conns ≡ (c, client_of kept h.phase.run) ∷ [] = ap (λ (x : NodeAlone). x.clients.conns) h.is ∙ ap (λ (intake : Option Kept). (clients_of c (waiting_on h.phase.way) h.phase.run intake).conns) open_ in
         let f : ◌≡◌ {A = List (ℕ × Client)} [] ((c, client_of kept h.phase.run) ∷ []) = sym none ∙ e in absurd (cc)

@@ -17,14 +17,14 @@ use Rattle.client_connections.specs.Items.{most_taken}
 use Rattle.client_connections.specs.Clients.{Client, Clients, client_at, has_waiting, hung_up, waits_at, with_new}
 use Rattle.single_rules.specs.Single.{IsSound, Single}
 use Rattle.single_items.specs.Alone.{AloneRun, alone, begins_alone}
-use Rattle.single_items.specs.Promises.{ConnectsFree, HangsUp, IsFree, IsFullIf, OpensFree}
-use Rattle.single_items.specs.Standing.{Asked, Calm, FitsWay, Granting, GrownFrom, IsAllTaken, IsHeardOn, IsKeptFrom, Phase, Standing, StandsAt, Stuck, Way, clients_of, left_on, logged_on, node_on, promised_on, queued_on, standing, waiting_on}
+use Rattle.single_items.specs.Promises.{ConnectsAlone, HangingUpLeads, IsUnconnected, IsFullIf, OpensUnconnected}
+use Rattle.single_items.specs.Standing.{Asked, Calm, FitsWay, Granting, GrownFrom, IsAllTaken, IsHeardOn, IsKeptFrom, Phase, NodeAlone, StandsAt, Stuck, Way, clients_of, left_on, logged_on, node_on, promised_on, queued_on, node_alone, waiting_on}
 use Rattle.single_items.proofs.Keeping.{found_one, left_one}
 use Rattle.single_items.proofs.Served.{stand_is}
 use Rattle.single_items.proofs.Serving.{client_of}
 
-pub opens_free : OpensFree
-opens_free a sound none = record {
+pub opens_unconnected : OpensUnconnected
+opens_unconnected a sound none = record {
   way = Calm None;
   left = refl;
   is = refl;
@@ -47,7 +47,7 @@ module _ (c : ℕ) (a : Single registry_machine) (handles : Table) (taken : ℕ)
   abbrev First : AloneRun
   First = begins_alone a handles taken
 
-  abbrev At : Way → Standing
+  abbrev At : Way → NodeAlone
   At way = record { node = node_on way a; clients = record { common = record { table = handles; waiting = waiting_on way; taken = taken }; conns = [] }; left = [] }
 
   begins_at : (way : Way) → IsFullIf way a → left_on way a ≡ [] → IsSound a → a.passed + queued_on way ≤ taken → taken ≤ most_taken → list_any (waits_at c) (waiting_on way) ≡ false
@@ -79,10 +79,10 @@ module _ (c : ℕ) (a : Single registry_machine) (handles : Table) (taken : ℕ)
   begins_at (Asked (Some l) origin u) full left sound requests items free = absurd (cc)
   begins_at (Granting origin u) full left sound requests items free = absurd (cc)
 
-pub connects_free : ConnectsFree
-connects_free c z a handles taken free unwaited =
-    let none : list_any (waits_at c) (waiting_on free.way) ≡ false = sym (ap (λ (x : Standing). has_waiting c x.clients.common) free.is) ∙ unwaited in
-    subst (λ (x : Standing). StandsAt c (begins_alone a handles taken) [] (record x { clients = with_new c x.clients }) [] []) (sym free.is)
+pub connects_alone : ConnectsAlone
+connects_alone c z a handles taken free unwaited =
+    let none : list_any (waits_at c) (waiting_on free.way) ≡ false = sym (ap (λ (x : NodeAlone). has_waiting c x.clients.common) free.is) ∙ unwaited in
+    subst (λ (x : NodeAlone). StandsAt c (begins_alone a handles taken) [] (record x { clients = with_new c x.clients }) [] []) (sym free.is)
         (begins_at c a handles taken free.way free.full free.left free.sound free.requests free.items none)
 
 module _ (c : ℕ) (first : AloneRun) (stream : List ℕ) (given : List Item) where
@@ -111,15 +111,15 @@ module _ (c : ℕ) (first : AloneRun) (stream : List ℕ) (given : List Item) wh
   gone_fits (Asked (Some l) origin u) r intake left h = absurd (cc)
   gone_fits (Granting origin u) r intake left h = absurd (cc)
 
-pub hangs_up : (c : ℕ) (first : AloneRun) (stream : List ℕ) (z : Standing) (output : List ℕ) (records : List Entry) → StandsAt c first stream z output records → HangsUp c first stream z output records
+pub hangs_up : (c : ℕ) (first : AloneRun) (stream : List ℕ) (z : NodeAlone) (output : List ℕ) (records : List Entry) → StandsAt c first stream z output records → HangingUpLeads c first stream z output records
 hangs_up c first stream z output records h quiet =
     let w : Way = h.phase.way in
     let r : AloneRun = h.phase.run in
-    let left : left_on w r.single ≡ [] = sym (ap (λ (x : Standing). x.left) h.is) ∙ quiet in
+    let left : left_on w r.single ≡ [] = sym (ap (λ (x : NodeAlone). x.left) h.is) ∙ quiet in
     record {
       phase = record { run = r; way = w; intake = None };
       given = h.given;
-      is = ap (λ (x : Standing). record x { clients = (hung_up c (client_at c x.clients) x.clients).0 }) h.is
+      is = ap (λ (x : NodeAlone). record x { clients = (hung_up c (client_at c x.clients) x.clients).0 }) h.is
           ∙ ap (λ (s : Clients). record { node = node_on w r.single; clients = s; left = left_on w r.single }) (hung c first stream h.given r w h.phase.intake);
       fits = gone_fits c first stream h.given w r h.phase.intake left h.fits;
       grown = h.grown;

@@ -22,7 +22,7 @@ use Rattle.single_rules.proofs.Comparisons.{less}
 use Rattle.single_rules.specs.Single.{Single, ask, asking, grant, granting, lock_of, made, outcome_of, release, updated}
 use Rattle.single_items.specs.Alone.{AloneRun, alone, answer_alone, done_alone, item_alone, takes_alone, took_alone, update_alone}
 use Rattle.single_items.specs.Promises.{BeginsWith, TellsFirst}
-use Rattle.single_items.specs.Standing.{Asked, Calm, FitsWay, Granting, GrownFrom, IsAllTaken, IsHeardOn, IsKeptFrom, Lately, Phase, Standing, StandsAt, Stuck, Way, left_on, logged_on, node_on, promised_on, queued_on, standing}
+use Rattle.single_items.specs.Standing.{Asked, Calm, FitsWay, Granting, GrownFrom, IsAllTaken, IsHeardOn, IsKeptFrom, Lately, Phase, NodeAlone, StandsAt, Stuck, Way, left_on, logged_on, node_on, promised_on, queued_on, node_alone}
 use Rattle.single_items.proofs.Served.{alone_both}
 
 pub begins_itself : {A : Type 0} (xs : List A) → BeginsWith xs xs
@@ -115,7 +115,7 @@ all_beyond c first given all way r promised (more, is) =
     subst (λ (x : AloneRun). GoesBeyond x (promised_on way r))
         (ap (λ (s : AloneRun). alone c s more) promised ∙ alone_both c first given more ∙ ap (alone c first) (sym is)) (grows c more (promised_on way r))
 
-pub tells_first : (c : ℕ) (first : AloneRun) (stream : List ℕ) (z : Standing) (output : List ℕ) (records : List Entry) → StandsAt c first stream z output records → TellsFirst c first stream output records
+pub tells_first : (c : ℕ) (first : AloneRun) (stream : List ℕ) (z : NodeAlone) (output : List ℕ) (records : List Entry) → StandsAt c first stream z output records → TellsFirst c first stream output records
 tells_first c first stream z output records h all fault items =
     let w : Way = h.phase.way in
     let r : AloneRun = h.phase.run in

@@ -23,7 +23,7 @@ use Rattle.single_rules.specs.Rounds.{after_all, all_made}
 use Rattle.single_rules.specs.Single.{Single, ask, asking, at_rest, grant, granting, made, outcome_of, release, releasing, updated}
 use Rattle.single_items.specs.Alone.{AloneRun, alone}
 use Rattle.single_items.specs.Promises.{BeginsWith, HaltsAlone, IsOnOrder, OrderGoesOn}
-use Rattle.single_items.specs.Standing.{Asked, Calm, FitsWay, Granting, GrownFrom, Lately, Standing, StandsAt, Stuck, Way, left_on, logged_on, node_on, promised_on, queued_on}
+use Rattle.single_items.specs.Standing.{Asked, Calm, FitsWay, Granting, GrownFrom, Lately, NodeAlone, StandsAt, Stuck, Way, left_on, logged_on, node_on, promised_on, queued_on}
 use Rattle.single_items.proofs.Fronts.{all_beyond, among, begins_itself, begins_more, made_first, promised_beyond}
 use Rattle.single_items.proofs.Growing.{after_both, made_both}
 use Rattle.single_items.proofs.Hearing.{frees_asked, frees_calm, on_first, sound_now}
@@ -91,14 +91,14 @@ module _ (first : AloneRun) (held : ℕ) (answer : Answer) where
               (finishes_one r.single u held answer (sound_now first r 1 grown)) (goes_on (Granting origin u) r (unlogged (acknowledges (releasing r.single u) (Some (outcome_of r.single u)) (Acked r.single.view (r.single.done + 1) ∷ Send (release r.single) ∷ []))) (releasing r.single u) refl))
   halts_on c (Stuck head others origins) r intake p left fits grown e = absurd (cc)
 
-pub halts_alone : (c : ℕ) (first : AloneRun) (stream : List ℕ) (z : Standing) (output : List ℕ) (records : List Entry) → StandsAt c first stream z output records → HaltsAlone c first stream z output records
+pub halts_alone : (c : ℕ) (first : AloneRun) (stream : List ℕ) (z : NodeAlone) (output : List ℕ) (records : List Entry) → StandsAt c first stream z output records → HaltsAlone c first stream z output records
 halts_alone c first stream z output records h p left held answer at stops all fault items =
     let w : Way = h.phase.way in
     let r : AloneRun = h.phase.run in
     let x : AloneRun = alone c first all in
-    let first_left : left_on w r.single ≡ p ∷ left = sym (ap (λ (s : Standing). s.left) h.is) ∙ at in
-    let here = subst (λ (s : Standing). (receive s.node p held answer).out.node ≡ None) h.is stops in
-    let doubt : option_to_list (receive (node_on w r.single) p held answer).doubtful ≡ option_to_list (receive z.node p held answer).doubtful = ap (λ (s : Standing). option_to_list (receive s.node p held answer).doubtful) (sym h.is) in
+    let first_left : left_on w r.single ≡ p ∷ left = sym (ap (λ (s : NodeAlone). s.left) h.is) ∙ at in
+    let here = subst (λ (s : NodeAlone). (receive s.node p held answer).out.node ≡ None) h.is stops in
+    let doubt : option_to_list (receive (node_on w r.single) p held answer).doubtful ≡ option_to_list (receive z.node p held answer).doubtful = ap (λ (s : NodeAlone). option_to_list (receive s.node p held answer).doubtful) (sym h.is) in
     let b = all_beyond c first h.given all w r h.promised (among stream h.given all fault items w r h.phase.intake h.heard) in
     let f = halts_on first held answer c w r h.phase.intake p left h.fits h.grown first_left here in
     let same : logged_on w r ++ option_to_list (receive (node_on w r.single) p held answer).doubtful ≡ records ++ option_to_list (receive z.node p held answer).doubtful =
@@ -128,9 +128,9 @@ on_way (Asked lately origin u) r cap order on = on_order cap (order ++ r.records
 on_way (Granting origin u) r cap order on = on_order cap (order ++ (r.records ++ made r.single u ∷ [])) (updated r.single u) (node_on (Granting origin u) r.single) (behind_one r u cap order on) refl
 on_way (Stuck head others origins) r cap order on = on_order cap (order ++ r.records) r.single (node_on (Stuck head others origins) r.single) on refl
 
-pub order_goes_on : (c : ℕ) (first : AloneRun) (stream : List ℕ) (z : Standing) (output : List ℕ) (records : List Entry) → StandsAt c first stream z output records → OrderGoesOn first z records
+pub order_goes_on : (c : ℕ) (first : AloneRun) (stream : List ℕ) (z : NodeAlone) (output : List ℕ) (records : List Entry) → StandsAt c first stream z output records → OrderGoesOn first z records
 order_goes_on c first stream z output records h cap order none on =
     let w : Way = h.phase.way in
     let r : AloneRun = h.phase.run in
     let g : IsOnOrder cap (order ++ logged_on w r) (node_on w r.single) = on_way w r cap order (behind_all first (queued_on w) r h.grown cap order none on) in
-    subst (λ (s : Standing). IsOnOrder cap (order ++ records) s.node) (sym h.is) (subst (λ (l : List Entry). IsOnOrder cap (order ++ l) (node_on w r.single)) (sym h.logged) g)
+    subst (λ (s : NodeAlone). IsOnOrder cap (order ++ records) s.node) (sym h.is) (subst (λ (l : List Entry). IsOnOrder cap (order ++ l) (node_on w r.single)) (sym h.logged) g)

@@ -31,20 +31,20 @@ use Rattle.single_rules.proofs.Refused.{grants_none, halts_fenced, halts_in_doub
 use Rattle.single_rules.specs.Rounds.{after_all, all_made}
 use Rattle.single_rules.specs.Single.{IsSound, Single, ask, asking, at_rest, grant, granting, lock_of, made, outcome_of, release, releasing, updated, with_queue}
 use Rattle.single_items.specs.Alone.{AloneRun, alone, answer_alone, done_alone, update_alone}
-use Rattle.single_items.specs.Events.{Answers, AreServed, Follows, HearsMessage, IsServedBy, GoesFurther, serving_by, told_by, told_to, with_answer}
+use Rattle.single_items.specs.Events.{AnswersHead, AreServed, FollowsAcks, MessageComes, IsServedBy, GoesFurther, serving_by, told_by, told_to, answer_behind}
 use Rattle.single_items.specs.Promises.{MessageLeads}
-use Rattle.single_items.specs.Standing.{Asked, Calm, FitsWay, Granting, GrownFrom, IsBehind, IsCallOf, IsHeardOn, IsKeptFrom, IsOpen, Lately, Phase, Standing, StandsAt, Stuck, Way, clients_of, left_on, lock_behind, logged_on, node_on, promised_on, queued_on, release_behind, standing, waiting_on}
+use Rattle.single_items.specs.Standing.{Asked, Calm, FitsWay, Granting, GrownFrom, IsBehind, IsCallOf, IsHeardOn, IsKeptFrom, IsOpen, Lately, Phase, NodeAlone, StandsAt, Stuck, Way, clients_of, left_on, lock_behind, logged_on, node_on, promised_on, queued_on, release_behind, node_alone, waiting_on}
 use Rattle.single_items.proofs.Finishing.{answered_clients, answered_with, finishes, keeps_association}
 use Rattle.single_items.proofs.Growing.{after_both, made_both}
 use Rattle.single_items.proofs.Keeping.{found_one}
 use Rattle.single_items.proofs.Served.{Ready, served, some_is, stand, stand_is}
 use Rattle.single_items.proofs.Serving.{client_of}
-use Rattle.single_items.proofs.Taking.{serving_at, waits_for_it}
+use Rattle.single_items.proofs.Taking.{serving_with, waits_for_it}
 use Rattle.single_items.proofs.Telling.{sent_both, told_both}
 
 -- What is behind an event of the protocol that left this.
 abbrev HeardBy : Logged registry_machine → ℕ → Clients → NodeState registry_machine → Clients → List Effect → Type 0
-HeardBy d passed s y t es = (left : NodeState registry_machine) × (d.out.node ≡ Some left) × Follows (acked d.out.effects) passed s d.out left y t es
+HeardBy d passed s y t es = (left : NodeState registry_machine) × (d.out.node ≡ Some left) × FollowsAcks (acked d.out.effects) passed s d.out left y t es
 
 pub sound_now : (first r : AloneRun) (queued : ℕ) → GrownFrom first queued r → IsSound r.single
 sound_now first r queued g = subst (λ (a : Single registry_machine). IsSound a) (sym g.single) (stays_sound first.single g.updates g.sound)
@@ -261,7 +261,7 @@ module _ (c : ℕ) (first : AloneRun) (stream : List ℕ) (given : List Item) (y
         let z = served c first stream given Behind tt Done kept kept ready y t more servers (record {
           told = here.told;
           update = here.update;
-          took = subst (λ (client : Option Client). Resumes (serving_at Done) c client s t here.told here.update) (found_one s.common c (client_of kept Done)) here.took;
+          took = subst (λ (client : Option Client). Resumes (serving_with Done) c client s t here.told here.update) (found_one s.common c (client_of kept Done)) here.took;
           node = here.node;
           effects = here.effects;
         }) in
@@ -273,22 +273,21 @@ module _ (c : ℕ) (first : AloneRun) (stream : List ℕ) (given : List Item) (y
           grown = z.grown;
           promised = z.promised;
           heard = z.heard;
-          told = ap (λ (l : List Effect). r.output ++ told_to c l) says ∙ told_done more ∙ z.told;
-          logged = append-nil (r.records ++ made r.single u ∷ []) ∙ records_done ∙ z.logged;
+          told = told_all more z.phase.run.output says z.told;
+          logged = append-nil (r.records ++ made r.single u ∷ []) ∙ z.logged;
         }
       where
-        told_done : (more : List Effect) → r.output ++ told_to c (Acks ++ more) ≡ Done.output ++ told_to c more
-        told_done more = simp (same, append_assoc)
-
-        records_done : r.records ++ made r.single u ∷ [] ≡ Done.records
-        records_done = refl
+        told_all : (more : List Effect) (output : List ℕ) → es ≡ Acks ++ more → Done.output ++ told_to c more ≡ output → r.output ++ told_to c es ≡ output
+        told_all more output says rest =
+            let acks : r.output ++ told_to c (Acks ++ more) ≡ Done.output ++ told_to c more = simp (same, append_assoc) in
+            ap (λ (l : List Effect). r.output ++ told_to c l) says ∙ acks ∙ rest
 
     hears_granted : AreServed t.conns → Hears (Granting origin u) r (Some kept) (grant r.single u) [] held answer
     hears_granted servers =
         let out : Out registry_machine = acknowledges (releasing r.single u) (Some (outcome_of r.single u)) (Acked r.single.view (r.single.done + 1) ∷ Send (release r.single) ∷ []) in
         by_event (Granting origin u) r (Some kept) (grant r.single u) [] held answer (unlogged out) (finishes_one r.single u held answer (sound_now first r 1 grown))
             (λ h. let m : NodeState registry_machine = h.0 in
-                let a = subst (λ (f : Finish). Answers f out m y t es) (finishes c (r.single.passed + 1) (r.single.done + 1) origin (outcome_of r.single u) r kept own) h.2 in
+                let a = subst (λ (f : Finish). AnswersHead f out m y t es) (finishes c (r.single.passed + 1) (r.single.done + 1) origin (outcome_of r.single u) r kept own) h.2 in
                 further m a.0 servers (sym (some_is (releasing r.single u) m h.1)) a.1 a.2)
 
   -- ---- any message
@@ -311,13 +310,13 @@ module _ (c : ℕ) (first : AloneRun) (stream : List ℕ) (given : List Item) (y
           (hears_granted origin u r kept held answer fits.0 fits.1 fits.2 grown promised heard servers)
   hears_on (Stuck head others origins) r intake p left held answer fits grown promised heard e servers = absurd (cc)
 
-pub hears_message : (c : ℕ) (first : AloneRun) (stream : List ℕ) (z : Standing) (output : List ℕ) (records : List Entry) → StandsAt c first stream z output records → MessageLeads c first stream z output records
+pub hears_message : (c : ℕ) (first : AloneRun) (stream : List ℕ) (z : NodeAlone) (output : List ℕ) (records : List Entry) → StandsAt c first stream z output records → MessageLeads c first stream z output records
 hears_message c first stream z output records h p left held answer y t es at heard servers =
     let w : Way = h.phase.way in
     let r : AloneRun = h.phase.run in
-    let first_left : left_on w r.single ≡ p ∷ left = sym (ap (λ (x : Standing). x.left) h.is) ∙ at in
-    let here = subst (λ (x : Standing). HearsMessage p held answer x.node x.clients y t es) h.is heard in
-    let logged : (receive (node_on w r.single) p held answer).appended ≡ (receive z.node p held answer).appended = ap (λ (x : Standing). (receive x.node p held answer).appended) (sym h.is) in
+    let first_left : left_on w r.single ≡ p ∷ left = sym (ap (λ (x : NodeAlone). x.left) h.is) ∙ at in
+    let here = subst (λ (x : NodeAlone). MessageComes p held answer x.node x.clients y t es) h.is heard in
+    let logged : (receive (node_on w r.single) p held answer).appended ≡ (receive z.node p held answer).appended = ap (λ (x : NodeAlone). (receive x.node p held answer).appended) (sym h.is) in
     let z1 = hears_on c first stream h.given y t es w r h.phase.intake p left held answer h.fits h.grown h.promised h.heard first_left servers (here.left, here.node, here.follows) in
     subst (λ (l : List ℕ). StandsAt c first stream (stand y t (left ++ sent es)) (l ++ told_to c es) (records ++ option_to_list (receive z.node p held answer).appended)) (sym h.told)
     (subst (λ (l : List Entry). StandsAt c first stream (stand y t (left ++ sent es)) (r.output ++ told_to c es) (l ++ option_to_list (receive z.node p held answer).appended)) (sym h.logged)

@@ -17,14 +17,14 @@ use Rattle.registry_machine.specs.Machine.{registry_machine}
 use Rattle.client_connections.specs.Clients.{Client, Clients, client_at, left_by, waits_at}
 use Rattle.client_connections.specs.Taking.{GoesOn, Hears, HearsBy, Serving, closes, refusal}
 use Rattle.single_items.specs.Alone.{AloneRun, alone}
-use Rattle.single_items.specs.Events.{AreServed, IsServedBy, HearsPiece, serving_by, submitted_if, told_to}
+use Rattle.single_items.specs.Events.{AreServed, IsServedBy, PieceComes, serving_by, submitted_if, told_to}
 use Rattle.single_items.specs.Promises.{IsRefused, PieceLeads}
-use Rattle.single_items.specs.Standing.{Asked, Calm, FitsWay, Granting, GrownFrom, IsHeardOn, IsKeptFrom, Phase, Standing, StandsAt, Stuck, Way, clients_of, left_on, logged_on, node_on, promised_on, queued_on, standing, waiting_on}
+use Rattle.single_items.specs.Standing.{Asked, Calm, FitsWay, Granting, GrownFrom, IsHeardOn, IsKeptFrom, Phase, NodeAlone, StandsAt, Stuck, Way, clients_of, left_on, logged_on, node_on, promised_on, queued_on, node_alone, waiting_on}
 use Rattle.single_items.proofs.Keeping.{found_one, left_one}
 use Rattle.single_items.proofs.Served.{Ready, served, some_is, stand, stand_is}
 use Rattle.single_items.proofs.Serving.{client_of}
 use Rattle.single_items.proofs.Submitting.{IsIdle}
-use Rattle.single_items.proofs.Taking.{serving_at}
+use Rattle.single_items.proofs.Taking.{serving_with}
 
 fed_kept : (kept : Kept) (stream piece : List ℕ) (given : List Item) → IsKeptFrom kept stream given → IsKeptFrom (fed kept piece) (stream ++ piece) given
 fed_kept kept stream piece given h = record { side = h.side; holds = holds_fed kept stream piece given h.holds }
@@ -42,7 +42,7 @@ module _ (c : ℕ) (first : AloneRun) (stream piece : List ℕ) (given : List It
     none_sent none = ap sent none ∙ sym quiet
 
     refused : (kept : Kept) (cause : CloseCause) → IsHeardOn way r None stream given → FitsWay c way r None → promised_on way r ≡ alone c first given
-        → IsServedBy (HearsBy (Some cause) (serving_at r) c piece (client_of kept r) (clients_of c (waiting_on way) r (Some kept))) (node_on way r.single) y t es
+        → IsServedBy (HearsBy (Some cause) (serving_with r) c piece (client_of kept r) (clients_of c (waiting_on way) r (Some kept))) (node_on way r.single) y t es
         → Refused r (logged_on way r)
     refused kept cause heard fits promised h =
         let none : h.update ≡ None = h.took.update in
@@ -64,7 +64,7 @@ module _ (c : ℕ) (first : AloneRun) (stream piece : List ℕ) (given : List It
         }, inr (cause, says))
 
     taken : (kept : Kept) → AreServed t.conns → Ready c first (stream ++ piece) given way idle r (fed kept piece)
-        → IsServedBy (HearsBy None (serving_at r) c piece (client_of kept r) (clients_of c (waiting_on way) r (Some kept))) (node_on way r.single) y t es
+        → IsServedBy (HearsBy None (serving_with r) c piece (client_of kept r) (clients_of c (waiting_on way) r (Some kept))) (node_on way r.single) y t es
         → Taken r (logged_on way r)
     taken kept servers ready h =
         let z = served c first (stream ++ piece) given way idle r (fed kept piece) kept ready y t es servers (record { told = h.told; update = h.update; took = h.took; node = h.node; effects = h.effects }) in
@@ -72,22 +72,22 @@ module _ (c : ℕ) (first : AloneRun) (stream piece : List ℕ) (given : List It
             (subst (λ (l : List Sent). StandsAt c first (stream ++ piece) (stand y t (l ++ sent es)) (r.output ++ told_to c es) r.records) quiet z)
 
     by_cause : (kept : Kept) (cause : Option CloseCause) → AreServed t.conns → IsHeardOn way r None stream given → FitsWay c way r None → promised_on way r ≡ alone c first given → Ready c first (stream ++ piece) given way idle r (fed kept piece)
-        → IsServedBy (HearsBy cause (serving_at r) c piece (client_of kept r) (clients_of c (waiting_on way) r (Some kept))) (node_on way r.single) y t es
+        → IsServedBy (HearsBy cause (serving_with r) c piece (client_of kept r) (clients_of c (waiting_on way) r (Some kept))) (node_on way r.single) y t es
         → Taken r (logged_on way r) ⊎ Refused r (logged_on way r)
     by_cause kept None servers heard fits promised ready h = inl (taken kept servers ready h)
     by_cause kept (Some cause) servers heard fits promised ready h = inr (refused kept cause heard fits promised h)
 
     open_still : (kept : Kept) → AreServed t.conns → IsHeardOn way r None stream given → FitsWay c way r None → promised_on way r ≡ alone c first given → Ready c first (stream ++ piece) given way idle r (fed kept piece)
-        → HearsPiece c piece (node_on way r.single) (clients_of c (waiting_on way) r (Some kept)) y t es → serving_by (node_on way r.single) ≡ serving_at r
+        → PieceComes c piece (node_on way r.single) (clients_of c (waiting_on way) r (Some kept)) y t es → serving_by (node_on way r.single) ≡ serving_with r
         → Taken r (logged_on way r) ⊎ Refused r (logged_on way r)
     open_still kept servers heard fits promised ready h serves =
         let s : Clients = clients_of c (waiting_on way) r (Some kept) in
         by_cause kept (refusal kept piece) servers heard fits promised ready
-            (subst (λ (client : Option Client). IsServedBy (Hears (serving_at r) c piece client s) (node_on way r.single) y t es) (found_one s.common c (client_of kept r))
+            (subst (λ (client : Option Client). IsServedBy (Hears (serving_with r) c piece client s) (node_on way r.single) y t es) (found_one s.common c (client_of kept r))
             (subst (λ (v : Serving). IsServedBy (Hears v c piece (client_at c s) s) (node_on way r.single) y t es) serves h))
 
     closed_already : IsHeardOn way r None stream given → FitsWay c way r None → promised_on way r ≡ alone c first given
-        → HearsPiece c piece (node_on way r.single) (clients_of c (waiting_on way) r None) y t es → Refused r (logged_on way r)
+        → PieceComes c piece (node_on way r.single) (clients_of c (waiting_on way) r None) y t es → Refused r (logged_on way r)
     closed_already heard fits promised h =
         let none : h.update ≡ None = h.took.update in
         let node : Some (node_on way r.single) ≡ Some y = sym (ap (λ (u : Option Update). (submitted_if u (node_on way r.single)).node) none) ∙ h.node in
@@ -106,7 +106,7 @@ module _ (c : ℕ) (first : AloneRun) (stream piece : List ℕ) (given : List It
         }, inl says)
 
   hears_on : (way : Way) (r : AloneRun) (intake : Option Kept) → FitsWay c way r intake → GrownFrom first (queued_on way) r → promised_on way r ≡ alone c first given → IsHeardOn way r intake stream given
-      → left_on way r.single ≡ [] → AreServed t.conns → HearsPiece c piece (node_on way r.single) (clients_of c (waiting_on way) r intake) y t es
+      → left_on way r.single ≡ [] → AreServed t.conns → PieceComes c piece (node_on way r.single) (clients_of c (waiting_on way) r intake) y t es
       → Taken r (logged_on way r) ⊎ Refused r (logged_on way r)
   hears_on (Calm (Some l)) r intake fits grown promised heard quiet servers h = absurd (cc)
   hears_on (Asked None origin u) r intake fits grown promised heard quiet servers h = absurd (cc)
@@ -131,11 +131,11 @@ module _ (c : ℕ) (first : AloneRun) (stream piece : List ℕ) (given : List It
         holds = fed_kept kept stream piece given heard.0;
       }) h refl
 
-pub hears_piece : (c : ℕ) (first : AloneRun) (stream : List ℕ) (z : Standing) (output : List ℕ) (records : List Entry) → StandsAt c first stream z output records → PieceLeads c first stream z output records
+pub hears_piece : (c : ℕ) (first : AloneRun) (stream : List ℕ) (z : NodeAlone) (output : List ℕ) (records : List Entry) → StandsAt c first stream z output records → PieceLeads c first stream z output records
 hears_piece c first stream z output records h piece y t es quiet heard servers =
     let p : Phase = h.phase in
-    let here = subst (λ (x : Standing). HearsPiece c piece x.node x.clients y t es) h.is heard in
-    let left : left_on p.way p.run.single ≡ [] = sym (ap (λ (x : Standing). x.left) h.is) ∙ quiet in
+    let here = subst (λ (x : NodeAlone). PieceComes c piece x.node x.clients y t es) h.is heard in
+    let left : left_on p.way p.run.single ≡ [] = sym (ap (λ (x : NodeAlone). x.left) h.is) ∙ quiet in
     let r = hears_on c first stream piece h.given y t es p.way p.run p.intake h.fits h.grown h.promised h.heard left servers here in
     subst (λ (l : List ℕ). StandsAt c first (stream ++ piece) (stand y t (sent es)) (l ++ told_to c es) records ⊎ (StandsAt c first stream (stand y t (sent es)) l records × IsRefused c es)) (sym h.told)
     (subst (λ (l : List Entry). StandsAt c first (stream ++ piece) (stand y t (sent es)) (p.run.output ++ told_to c es) l ⊎ (StandsAt c first stream (stand y t (sent es)) p.run.output l × IsRefused c es)) (sym h.logged) r)

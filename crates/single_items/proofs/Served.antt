@@ -24,16 +24,16 @@ use Rattle.single_rules.proofs.Comparisons.{not_less}
 use Rattle.single_rules.specs.Single.{Single}
 use Rattle.single_items.specs.Alone.{AloneRun, alone, item_alone, update_alone}
 use Rattle.single_items.specs.Events.{AreServed, IsServedBy, submitted_if, told_to}
-use Rattle.single_items.specs.Standing.{Asked, Calm, FitsWay, GrownFrom, IsAllTaken, IsBehind, IsCallOf, IsHeardOn, IsKeptFrom, Granting, Phase, Standing, StandsAt, Stuck, Way, clients_of, left_on, logged_on, node_on, promised_on, queued_on, standing, waiting_on}
+use Rattle.single_items.specs.Standing.{Asked, Calm, FitsWay, GrownFrom, IsAllTaken, IsBehind, IsCallOf, IsHeardOn, IsKeptFrom, Granting, Phase, NodeAlone, StandsAt, Stuck, Way, clients_of, left_on, logged_on, node_on, promised_on, queued_on, node_alone, waiting_on}
 use Rattle.single_items.proofs.Serving.{Carries, Went, WentAway, WentCalmly, WentQueueing, client_of, goes_alone}
 use Rattle.single_items.proofs.Submitting.{IsIdle, asks_on, pushed, submits_on}
-use Rattle.single_items.proofs.Taking.{Reached, any_last, serving_at, waits_for_it}
+use Rattle.single_items.proofs.Taking.{Reached, any_last, serving_with, waits_for_it}
 use Rattle.single_items.proofs.Telling.{sent_both, told_both}
 
 pub some_is : {A : Type 0} (a b : A) → Some a ≡ Some b → a ≡ b
 some_is a b e = cc
 
-abbrev pub stand : NodeState registry_machine → Clients → List Sent → Standing
+abbrev pub stand : NodeState registry_machine → Clients → List Sent → NodeAlone
 stand node clients left = record { node = node; clients = clients; left = left }
 
 pub stand_is : (x y : NodeState registry_machine) (s t : Clients) (ps qs : List Sent) → x ≡ y → s ≡ t → ps ≡ qs → stand x s ps ≡ stand y t qs
@@ -279,7 +279,7 @@ module _ (c : ℕ) (first : AloneRun) (stream : List ℕ) (given : List Item) (w
 
 pub served : (c : ℕ) (first : AloneRun) (stream : List ℕ) (given : List Item) (way : Way) (idle : IsIdle way) (r : AloneRun) (before kept : Kept) → Ready c first stream given way idle r before
     → (y : NodeState registry_machine) (t : Clients) (es : List Effect) → AreServed t.conns
-    → IsServedBy (GoesOn (serving_at r) c (client_of before r) (clients_of c (waiting_on way) r (Some kept))) (node_on way r.single) y t es
+    → IsServedBy (GoesOn (serving_with r) c (client_of before r) (clients_of c (waiting_on way) r (Some kept))) (node_on way r.single) y t es
     → StandsAt c first stream (stand y t (left_on way r.single ++ sent es)) (r.output ++ told_to c es) r.records
 served c first stream given way idle r before kept ready y t es servers h =
     goes c first stream given way idle r before ready y t es h.told h.update

@@ -21,7 +21,7 @@ use Rattle.single_items.specs.Alone.{AloneRun, alone, takes_alone, update_alone}
 use Rattle.single_items.specs.Events.{AreServed, told_to}
 use Rattle.single_items.specs.Standing.{IsAllTaken, IsCallOf, IsKeptFrom, clients_of}
 use Rattle.single_items.proofs.Keeping.{left_one, put_one}
-use Rattle.single_items.proofs.Taking.{Reached, TookAll, TookUpdate, all_taken, course_at, serving_at, shuts}
+use Rattle.single_items.proofs.Taking.{Reached, TookAll, TookUpdate, all_taken, course_at, serving_with, shuts}
 use Rattle.single_items.proofs.Telling.{sent_both, told_both}
 
 abbrev pub client_of : Kept → AloneRun → Client
@@ -170,7 +170,7 @@ module _ (c : ℕ) (old : List Origin) (r : AloneRun) (before kept : Kept) (t : 
     by_ending Waits served waits rests stands put says update (inr took) = absurd (queues_open took rests)
     by_ending (Fails fault) served waits rests stands put says update (inr took) = absurd (queues_open took rests)
 
-  pub goes_alone : AreServed t.conns → r.waits ≡ list_any (waits_at c) old → r.taken ≤ most_taken → GoesOn (serving_at r) c (client_of before r) Here t told queued → Went c old r before t told queued
+  pub goes_alone : AreServed t.conns → r.waits ≡ list_any (waits_at c) old → r.taken ≤ most_taken → GoesOn (serving_with r) c (client_of before r) Here t told queued → Went c old r before t told queued
   goes_alone served waits few g =
       let took = all_taken c old g.takes.items r.output r [] waits (sym (append-nil r.output)) refl few g.takes.may in
       by_ending g.takes.items g.intake g.course g.ending served waits g.takes.rests g.takes.stands g.clients g.effects g.update

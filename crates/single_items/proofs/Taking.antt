@@ -82,8 +82,8 @@ none_behind v c p (i ∷ is) shut may = let e : true ≡ false = sym may.0 ∙ s
 abbrev pub course_at : List Origin → AloneRun → List Effect → Course
 course_at waiting r es = record { common = record { table = r.client.handles; waiting = waiting; taken = r.taken }; association = r.client.association; effects = es; update = None }
 
-abbrev pub serving_at : AloneRun → Serving
-serving_at r = serving (Some r.single.registry.keys) r.single.done
+abbrev pub serving_with : AloneRun → Serving
+serving_with r = serving (Some r.single.registry.keys) r.single.done
 
 -- The connection was sent Alone's replies, and nothing was logged.
 pub record Reached (c : ℕ) (before : List ℕ) (r x : AloneRun) (es : List Effect) : Type 0 where
@@ -158,28 +158,28 @@ module _ (c : ℕ) (old : List Origin) where
 
   abbrev All : List Item → Type 0
   All items = (before : List ℕ) (r : AloneRun) (es : List Effect) → r.waits ≡ list_any (waits_at c) old → r.output ≡ before ++ told_to c es → sent es ≡ [] → r.taken ≤ most_taken
-      → MayAll (serving_at r) c (course_at old r es) items → Taken c old before r items (takes_all (serving_at r) c (course_at old r es) items)
+      → MayAll (serving_with r) c (course_at old r es) items → Taken c old before r items (takes_all (serving_with r) c (course_at old r es) items)
 
   one : (before : List ℕ) (r : AloneRun) (es : List Effect) (i : Item) (items : List Item) (t : Took × ClientState) → All items → Mine c t
       → item_alone c r i ≡ took_alone t r → r.waits ≡ list_any (waits_at c) old → r.output ≡ before ++ told_to c es → sent es ≡ [] → r.taken < most_taken
-      → MayAll (serving_at r) c (took_by (serving_at r) c (course_at old r es) t) items
-      → Taken c old before r (i ∷ items) (takes_all (serving_at r) c (took_by (serving_at r) c (course_at old r es) t) items)
+      → MayAll (serving_with r) c (took_by (serving_with r) c (course_at old r es) t) items
+      → Taken c old before r (i ∷ items) (takes_all (serving_with r) c (took_by (serving_with r) c (course_at old r es) t) items)
   one before r es i items (Nothing, n) all m is waits output silent room may =
       let s : AloneRun = counted_alone n r in
-      let q : Course = takes_all (serving_at r) c (took_by (serving_at r) c (course_at old r es) (Nothing, n)) items in
+      let q : Course = takes_all (serving_with r) c (took_by (serving_with r) c (course_at old r es) (Nothing, n)) items in
       on_from before r s i items q is refl refl refl (omega arith) (all before s es waits output silent (omega arith) may)
   one before r es i items (Reply bytes reads, n) all m is waits output silent room may =
       let s : AloneRun = replies_alone bytes (counted_alone n r) in
-      let q : Course = takes_all (serving_at r) c (took_by (serving_at r) c (course_at old r es) (Reply bytes reads, n)) items in
+      let q : Course = takes_all (serving_with r) c (took_by (serving_with r) c (course_at old r es) (Reply bytes reads, n)) items in
       let told : List Effect = es ++ effect.Reply c (point_if r.single.done reads) bytes ∷ [] in
       let sends : r.output ++ bytes ≡ before ++ told_to c told =
           ap (λ (l : List ℕ). l ++ bytes) output ∙ append_assoc before (told_to c es) bytes ∙ ap (λ (l : List ℕ). before ++ l) (sym (told_reply c es (point_if r.single.done reads) bytes)) in
       on_from before r s i items q is refl refl refl (omega arith) (all before s told waits sends (silent_reply c es (point_if r.single.done reads) bytes silent) (omega arith) may)
   one before r es i items (Queues origin u, n) all m is waits output silent room may =
       let w : AloneRun = counted_alone n r in
-      let p : Course = took_by (serving_at r) c (course_at old r es) (Queues origin u, n) in
-      let none : items ≡ [] = none_behind (serving_at r) c p items (shuts c (r.taken + 1) n.handles old origin m) may in
-      subst (λ (l : List Item). Taken c old before r (i ∷ l) (takes_all (serving_at r) c p l)) (sym none)
+      let p : Course = took_by (serving_with r) c (course_at old r es) (Queues origin u, n) in
+      let none : items ≡ [] = none_behind (serving_with r) c p items (shuts c (r.taken + 1) n.handles old origin m) may in
+      subst (λ (l : List Item). Taken c old before r (i ∷ l) (takes_all (serving_with r) c p l)) (sym none)
           (inr (record {
             run = w;
             origin = origin;

@@ -41,8 +41,8 @@ pub record IsServedBy (Took : Clients → List Effect → Option Update → Type
   pub effects : es ≡ told ++ (submitted_if update x).effects
 
 -- A piece of the stream of connection `c`.
-abbrev pub HearsPiece : ℕ → List ℕ → NodeState registry_machine → Clients → NodeState registry_machine → Clients → List Effect → Type 0
-HearsPiece c piece x s y t es = IsServedBy (Hears (serving_by x) c piece (client_at c s) s) x y t es
+abbrev pub PieceComes : ℕ → List ℕ → NodeState registry_machine → Clients → NodeState registry_machine → Clients → List Effect → Type 0
+PieceComes c piece x s y t es = IsServedBy (Hears (serving_by x) c piece (client_at c s) s) x y t es
 
 -- The connection whose update was answered, if it is open, takes further items.
 abbrev pub GoesFurther : Option ℕ → NodeState registry_machine → Clients → NodeState registry_machine → Clients → List Effect → Type 0
@@ -52,25 +52,25 @@ GoesFurther (Some c) x s y t es = IsServedBy (Resumes (serving_by x) c (client_a
 -- ---- an event of the protocol
 
 -- The answer stands right behind the acknowledgement.
-abbrev pub with_answer : List Effect → List Effect → List Effect
-with_answer answer [] = []
-with_answer answer (Acked view place ∷ es) = Acked view place ∷ (answer ++ es)
-with_answer answer (e ∷ es) = e ∷ with_answer answer es
+abbrev pub answer_behind : List Effect → List Effect → List Effect
+answer_behind answer [] = []
+answer_behind answer (Acked view place ∷ es) = Acked view place ∷ (answer ++ es)
+answer_behind answer (e ∷ es) = e ∷ answer_behind answer es
 
-abbrev pub Answers : Finish → Out registry_machine → NodeState registry_machine → NodeState registry_machine → Clients → List Effect → Type 0
-Answers end out m y t es =
-    (more : List Effect) × GoesFurther end.resumes m end.clients y t more × (es ≡ with_answer (option_to_list end.effect) out.effects ++ more)
+abbrev pub AnswersHead : Finish → Out registry_machine → NodeState registry_machine → NodeState registry_machine → Clients → List Effect → Type 0
+AnswersHead end out m y t es =
+    (more : List Effect) × GoesFurther end.resumes m end.clients y t more × (es ≡ answer_behind (option_to_list end.effect) out.effects ++ more)
 
 -- What follows of the acknowledgements of an event behind `passed` finished requests, which left the node `m`.
-abbrev pub Follows : List (ℕ × ℕ) → ℕ → Clients → Out registry_machine → NodeState registry_machine → NodeState registry_machine → Clients → List Effect → Type 0
-Follows [] passed s out m y t es = (y ≡ m) × (t ≡ s) × (es ≡ out.effects)
-Follows ((view, place) ∷ others) passed s out m y t es = Answers (finished s.common.waiting (passed + 1) place out.outcome s) out m y t es
+abbrev pub FollowsAcks : List (ℕ × ℕ) → ℕ → Clients → Out registry_machine → NodeState registry_machine → NodeState registry_machine → Clients → List Effect → Type 0
+FollowsAcks [] passed s out m y t es = (y ≡ m) × (t ≡ s) × (es ≡ out.effects)
+FollowsAcks ((view, place) ∷ others) passed s out m y t es = AnswersHead (finished s.common.waiting (passed + 1) place out.outcome s) out m y t es
 
 -- A message comes; `held` is the fencing token of the disk, `answer` what the log's calls came to.
-pub record HearsMessage (p : Sent) (held : ℕ) (answer : Answer) (x : NodeState registry_machine) (s : Clients) (y : NodeState registry_machine) (t : Clients) (es : List Effect) : Type 0 where
+pub record MessageComes (p : Sent) (held : ℕ) (answer : Answer) (x : NodeState registry_machine) (s : Clients) (y : NodeState registry_machine) (t : Clients) (es : List Effect) : Type 0 where
   pub left : NodeState registry_machine
   pub node : (receive x p held answer).out.node ≡ Some left
-  pub follows : Follows (acked (receive x p held answer).out.effects) x.core.passed s (receive x p held answer).out left y t es
+  pub follows : FollowsAcks (acked (receive x p held answer).out.effects) x.core.passed s (receive x p held answer).out left y t es
 
 -- ---- what is always so of the connections
 

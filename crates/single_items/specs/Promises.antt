@@ -24,18 +24,18 @@ use Rattle.gum_core.specs.Updating.{last_place}
 use Rattle.single_rules.specs.Promises.{OnOrder}
 use Rattle.single_rules.specs.Single.{IsSound, Single, at_rest}
 use Rattle.single_items.specs.Alone.{AloneRun, alone, begins_alone, handles_behind}
-use Rattle.single_items.specs.Events.{AreServed, HearsMessage, HearsPiece, told_to}
-use Rattle.single_items.specs.Standing.{Standing, StandsAt, Stuck, Way, left_on, node_on, queued_on, waiting_on}
+use Rattle.single_items.specs.Events.{AreServed, MessageComes, PieceComes, told_to}
+use Rattle.single_items.specs.Standing.{NodeAlone, StandsAt, Stuck, Way, left_on, node_on, queued_on, waiting_on}
 
 -- The node with its connections behind an event that had these effects.
-abbrev pub behind : NodeState registry_machine → Clients → List Sent → List Effect → Standing
+abbrev pub behind : NodeState registry_machine → Clients → List Sent → List Effect → NodeAlone
 behind y t left es = record { node = y; clients = t; left = left ++ sent es }
 
 -- The oldest of its messages comes, and it doesn't halt: it stands where Alone says, and has logged what that event has.
-abbrev pub MessageLeads : ℕ → AloneRun → List ℕ → Standing → List ℕ → List Entry → Type 0
+abbrev pub MessageLeads : ℕ → AloneRun → List ℕ → NodeAlone → List ℕ → List Entry → Type 0
 MessageLeads c first stream z output records =
     (p : Sent) (left : List Sent) (held : ℕ) (answer : Answer) (y : NodeState registry_machine) (t : Clients) (es : List Effect)
-    → z.left ≡ p ∷ left → HearsMessage p held answer z.node z.clients y t es → AreServed t.conns
+    → z.left ≡ p ∷ left → MessageComes p held answer z.node z.clients y t es → AreServed t.conns
     → StandsAt c first stream (behind y t left es) (output ++ told_to c es) (records ++ option_to_list (receive z.node p held answer).appended)
 
 -- The piece was refused, as the connection has closed or it was too much, and is no part of the stream.
@@ -43,10 +43,10 @@ abbrev pub IsRefused : ℕ → List Effect → Type 0
 IsRefused c es = (es ≡ []) ⊎ ((cause : CloseCause) × (es ≡ closes c cause))
 
 -- None of its messages is under way, and a piece of the connection's stream comes.
-abbrev pub PieceLeads : ℕ → AloneRun → List ℕ → Standing → List ℕ → List Entry → Type 0
+abbrev pub PieceLeads : ℕ → AloneRun → List ℕ → NodeAlone → List ℕ → List Entry → Type 0
 PieceLeads c first stream z output records =
     (piece : List ℕ) (y : NodeState registry_machine) (t : Clients) (es : List Effect)
-    → z.left ≡ [] → HearsPiece c piece z.node z.clients y t es → AreServed t.conns
+    → z.left ≡ [] → PieceComes c piece z.node z.clients y t es → AreServed t.conns
     → StandsAt c first (stream ++ piece) (behind y t [] es) (output ++ told_to c es) records
     ⊎ (StandsAt c first stream (behind y t [] es) output records × IsRefused c es)
 
@@ -58,7 +58,7 @@ IsFullIf (Stuck head others origins) a = last_place ≤ a.done
 IsFullIf way a = Unit {0}
 
 -- The node has no connection, and no message of it is under way: what tells its state is this.
-pub record IsFree (z : Standing) (a : Single registry_machine) (handles : Table) (taken : ℕ) : Type 0 where
+pub record IsUnconnected (z : NodeAlone) (a : Single registry_machine) (handles : Table) (taken : ℕ) : Type 0 where
   pub way : Way
   pub left : left_on way a ≡ []
   pub is : z ≡ record {
@@ -72,28 +72,28 @@ pub record IsFree (z : Standing) (a : Single registry_machine) (handles : Table)
   pub items : taken ≤ most_taken
 
 -- It has just opened alone.
-abbrev pub OpensFree : Type 0
-OpensFree =
+abbrev pub OpensUnconnected : Type 0
+OpensUnconnected =
     (a : Single registry_machine) → IsSound a → a.passed ≡ 0
-    → IsFree (record { node = at_rest a; clients = no_clients a.node; left = [] }) a (handles.fresh a.node) 0
+    → IsUnconnected (record { node = at_rest a; clients = no_clients a.node; left = [] }) a (handles.fresh a.node) 0
 
 -- A connection begins, for which no update waits.
-abbrev pub ConnectsFree : Type 0
-ConnectsFree =
-    (c : ℕ) (z : Standing) (a : Single registry_machine) (handles : Table) (taken : ℕ)
-    → IsFree z a handles taken → has_waiting c z.clients.common ≡ false
+abbrev pub ConnectsAlone : Type 0
+ConnectsAlone =
+    (c : ℕ) (z : NodeAlone) (a : Single registry_machine) (handles : Table) (taken : ℕ)
+    → IsUnconnected z a handles taken → has_waiting c z.clients.common ≡ false
     → StandsAt c (begins_alone a handles taken) [] (record z { clients = with_new c z.clients }) [] []
 
 -- The client hangs up.
-abbrev pub HangsUp : ℕ → AloneRun → List ℕ → Standing → List ℕ → List Entry → Type 0
-HangsUp c first stream z output records =
+abbrev pub HangingUpLeads : ℕ → AloneRun → List ℕ → NodeAlone → List ℕ → List Entry → Type 0
+HangingUpLeads c first stream z output records =
     z.left ≡ [] → StandsAt c first stream (record z { clients = (hung_up c (client_at c z.clients) z.clients).0 }) output records
 
 -- Its connection is gone, and no message is under way.
-abbrev pub EndsFree : ℕ → AloneRun → List ℕ → Standing → Type 0
-EndsFree c first stream z =
+abbrev pub EndsUnconnected : ℕ → AloneRun → List ℕ → NodeAlone → Type 0
+EndsUnconnected c first stream z =
     z.left ≡ [] → z.clients.conns ≡ [] → (all : List Item) (fault : Option IntakeFault) → Items Server stream all fault
-    → IsFree z (alone c first all).single (handles_behind (alone c first all)) (alone c first all).taken
+    → IsUnconnected z (alone c first all).single (handles_behind (alone c first all)) (alone c first all).taken
 
 -- ---- what that says
 
@@ -103,7 +103,7 @@ pub record IsAlone (c : ℕ) (first : AloneRun) (items : List Item) (output : Li
   pub told : output ≡ (alone c first items).output
   pub logged : records ≡ (alone c first items).records
 
-abbrev pub TellsAlone : ℕ → AloneRun → List ℕ → Standing → List ℕ → List Entry → Type 0
+abbrev pub TellsAlone : ℕ → AloneRun → List ℕ → NodeAlone → List ℕ → List Entry → Type 0
 TellsAlone c first stream z output records =
     z.left ≡ [] → (all : List Item) (fault : Option IntakeFault) → Items Server stream all fault → IsAlone c first all output records
 
@@ -123,7 +123,7 @@ TellsFirst c first stream output records =
     (all : List Item) (fault : Option IntakeFault) → Items Server stream all fault → AreAlonesFirst c first all output records
 
 -- So it is where the node halts, as the log is fenced or fails: the record that is in doubt then is Alone's next one.
-abbrev pub HaltsAlone : ℕ → AloneRun → List ℕ → Standing → List ℕ → List Entry → Type 0
+abbrev pub HaltsAlone : ℕ → AloneRun → List ℕ → NodeAlone → List ℕ → List Entry → Type 0
 HaltsAlone c first stream z output records =
     (p : Sent) (left : List Sent) (held : ℕ) (answer : Answer) → z.left ≡ p ∷ left → (receive z.node p held answer).out.node ≡ None
     → TellsFirst c first stream output (records ++ option_to_list (receive z.node p held answer).doubtful)
@@ -134,5 +134,5 @@ pub record IsOnOrder (cap : ℕ) (order : List Entry) (x : NodeState registry_ma
   pub length : length order ≡ done
   pub replica : x.replica ≡ Some (record { registry = registry_at registry_machine cap order done; done = done })
 
-abbrev pub OrderGoesOn : AloneRun → Standing → List Entry → Type 0
+abbrev pub OrderGoesOn : AloneRun → NodeAlone → List Entry → Type 0
 OrderGoesOn first z records = (cap : ℕ) (order : List Entry) → first.records ≡ [] → OnOrder cap order first.single → IsOnOrder cap (order ++ records) z.node

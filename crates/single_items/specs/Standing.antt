@@ -22,7 +22,7 @@ use Rattle.single_rules.specs.Single.{IsSound, Single, ask, grant, granting, loc
 use Rattle.single_items.specs.Alone.{AloneRun, alone, handles_behind, takes_alone, update_alone}
 
 -- The node, its connections, and the messages that it has sent to itself and not heard yet, the oldest first.
-pub record Standing : Type 0 where
+pub record NodeAlone : Type 0 where
   pub node : NodeState registry_machine
   pub clients : Clients
   pub left : List Sent
@@ -95,8 +95,8 @@ pub record Phase : Type 0 where
   pub way : Way
   pub intake : Option Kept
 
-abbrev pub standing : ℕ → Phase → Standing
-standing c p = record { node = node_on p.way p.run.single; clients = clients_of c (waiting_on p.way) p.run p.intake; left = left_on p.way p.run.single }
+abbrev pub node_alone : ℕ → Phase → NodeAlone
+node_alone c p = record { node = node_on p.way p.run.single; clients = clients_of c (waiting_on p.way) p.run p.intake; left = left_on p.way p.run.single }
 
 -- What Alone says of all items that it took.
 abbrev pub promised_on : Way → AloneRun → AloneRun
@@ -157,10 +157,10 @@ IsHeardOn way r (Some intake) stream given = IsKeptFrom intake stream given × I
 IsHeardOn way r None stream given = ((intake : Kept) × IsKeptFrom intake stream given × IsAllTaken stream given r) ⊎ ((fault : IntakeFault) × Items Server stream given (Some fault))
 
 -- Alone began with `first`, and this is the stream of the connection so far.
-pub record StandsAt (c : ℕ) (first : AloneRun) (stream : List ℕ) (z : Standing) (output : List ℕ) (records : List Entry) : Type 0 where
+pub record StandsAt (c : ℕ) (first : AloneRun) (stream : List ℕ) (z : NodeAlone) (output : List ℕ) (records : List Entry) : Type 0 where
   pub phase : Phase
   pub given : List Item
-  pub is : z ≡ standing c phase
+  pub is : z ≡ node_alone c phase
   pub fits : FitsWay c phase.way phase.run phase.intake
   pub grown : GrownFrom first (queued_on phase.way) phase.run
   pub promised : promised_on phase.way phase.run ≡ alone c first given

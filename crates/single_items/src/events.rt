@@ -4,13 +4,12 @@ ghost use Rattle.std.specs.Prelude.{List, ℕ};
 ghost use Rattle.update_records.specs.Entry.{Entry};
 ghost use Rattle.single_items.specs.Alone.{AloneRun};
 ghost use Rattle.single_items.specs.Promises.{MessageLeads, PieceLeads};
-ghost use Rattle.single_items.specs.Standing.{Standing, StandsAt};
+ghost use Rattle.single_items.specs.Standing.{NodeAlone, StandsAt};
 
 /// A piece of the stream comes while no message is under way: the items that were taken are Alone's, also where an update of
 /// theirs is queued, the stream has a fault behind them, or the log is full.
-#[tactic(auto, using(crate::proofs::Pieces::hears_piece))]
 pub fn hears_piece()
-    ensures { (c : ℕ) (first : AloneRun) (stream : List ℕ) (z : Standing) (output : List ℕ) (records : List Entry)
+    ensures { (c : ℕ) (first : AloneRun) (stream : List ℕ) (z : NodeAlone) (output : List ℕ) (records : List Entry)
         → StandsAt c first stream z output records → PieceLeads c first stream z output records }
 {}
 
@@ -18,6 +17,6 @@ pub fn hears_piece()
 /// the connection's items, or has its lock free again.
 #[tactic(auto, using(crate::proofs::Hearing::hears_message))]
 pub fn hears_message()
-    ensures { (c : ℕ) (first : AloneRun) (stream : List ℕ) (z : Standing) (output : List ℕ) (records : List Entry)
+    ensures { (c : ℕ) (first : AloneRun) (stream : List ℕ) (z : NodeAlone) (output : List ℕ) (records : List Entry)
         → StandsAt c first stream z output records → MessageLeads c first stream z output records }
 {}
