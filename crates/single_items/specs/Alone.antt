@@ -1,12 +1,12 @@
 -- What the items of a client come to at a node that is alone: what it would queue, it does at once.
-use Rattle.std.specs.Prelude.{ℕ, ◌+◌, Bool, true, false, not, ◌&&◌, List, [], ◌∷◌, ◌++◌, Option, Some, None, nat_lt, if◌then◌else◌}
+use Rattle.std.specs.Prelude.{ℕ, ◌+◌, Bool, true, false, not, ◌&&◌, List, [], ◌∷◌, ◌++◌, length, Option, Some, None, nat_lt, if◌then◌else◌}
 use Rattle.std.specs.List.{fold}
 use Rattle.ndr_values.specs.declared.handle.WireHandle.{WireHandle}
 use Rattle.update_records.specs.Entry.{Entry}
 use Rattle.update_records.specs.declared.update.Update.{Update}
 use Rattle.registry_defs.specs.declared.outcome.Outcome.{Outcome}
 use Rattle.clusapi_methods.specs.Finishing.{finished_as}
-use Rattle.context_handles.specs.Table.{Table}
+use Rattle.context_handles.specs.Table.{Table, fresh}
 use Rattle.rpc_calls.specs.declared.item.Item.{Item}
 use Rattle.rpc_assoc.specs.Association.{reply_size}
 use Rattle.rpc_assoc.specs.State.{State, group_of, unbound}
@@ -19,7 +19,7 @@ use Rattle.client_connections.specs.declared.took.Took.{Took}
 use Rattle.client_connections.specs.declared.took.Took.TheVariants.{Nothing, Reply, Queues}
 use Rattle.client_connections.specs.Finishing.{opened_in, opened_on}
 use Rattle.client_connections.specs.Items.{ClientState, item_of, most_taken, results_text, state}
-use Rattle.single_rules.specs.Single.{Single, made, outcome_of, updated}
+use Rattle.single_rules.specs.Single.{Single, made, outcome_of, over_order, updated}
 
 -- The node between two items of a connection, and what these came to so far.
 pub record AloneRun : Type 0 where
@@ -93,3 +93,12 @@ handles_behind r = without (group_of r.client.association) r.client.handles
 -- The next connection begins where this one has ended.
 abbrev pub next_alone : AloneRun → AloneRun
 next_alone r = begins_alone r.single (handles_behind r) r.taken
+
+-- What the connections come to, one after the other and the first of this number, with these items of each.
+abbrev pub all_alone : ℕ → AloneRun → List (List Item) → List AloneRun
+all_alone c first [] = []
+all_alone c first (items ∷ others) = alone c first items ∷ all_alone (c + 1) (next_alone (alone c first items)) others
+
+-- Node 1 has opened over a log of this capacity that holds this order: its incarnation is one more than the records found.
+abbrev pub opened_alone : ℕ → List Entry → ℕ → AloneRun
+opened_alone cap order stamp = begins_alone (over_order registry_machine 1 (length order + 1) 1 stamp cap order) (fresh 1) 0
