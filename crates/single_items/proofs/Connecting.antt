@@ -1,5 +1,5 @@
 -- Connections come and go while no message is under way.
-use Rattle.std.proofs.Common.{◌≡◌, ◌⊎◌, inl, inr, ℕ, ◌+◌, ◌≤◌, Bool, false, true, List, [], ◌∷◌, ◌++◌, Option, Some, None, refl, sym, ap, ◌∙◌, subst, arith}
+use Rattle.std.proofs.Common.{◌≡◌, ◌⊎◌, inl, inr, ℕ, ◌+◌, ◌≤◌, Bool, false, true, List, [], ◌∷◌, ◌++◌, length, Option, Some, None, refl, sym, ap, ◌∙◌, subst, arith}
 use Rattle.std.proofs.lemmas.List.{append-nil}
 use Rattle.std.specs.List.{list_any}
 use Rattle.update_records.specs.Entry.{Entry}
@@ -15,9 +15,10 @@ use Rattle.gum_core.specs.Updating.{last_place}
 use Rattle.registry_machine.specs.Machine.{registry_machine}
 use Rattle.client_connections.specs.Items.{most_taken}
 use Rattle.client_connections.specs.Clients.{Client, Clients, client_at, has_waiting, hung_up, waits_at, with_new}
+use Rattle.single_rules.proofs.Opens.{recovers_order, recovers_sound}
 use Rattle.single_rules.specs.Single.{IsSound, Single}
-use Rattle.single_items.specs.Alone.{AloneRun, alone, begins_alone}
-use Rattle.single_items.specs.Promises.{ConnectsAlone, HangingUpLeads, IsUnconnected, IsFullIf, OpensUnconnected}
+use Rattle.single_items.specs.Alone.{AloneRun, alone, begins_alone, opened_alone}
+use Rattle.single_items.specs.Promises.{ConnectsAlone, HangingUpLeads, IsUnconnected, IsFullIf, OpensOverOrder, OpensUnconnected}
 use Rattle.single_items.specs.Standing.{Asked, Calm, FitsWay, Granting, GrownFrom, IsAllTaken, IsHeardOn, IsKeptFrom, Phase, NodeAlone, StandsAt, Stuck, Way, clients_of, left_on, logged_on, node_on, promised_on, queued_on, node_alone, waiting_on}
 use Rattle.single_items.proofs.Keeping.{found_one, left_one}
 use Rattle.single_items.proofs.Served.{stand_is}
@@ -33,6 +34,11 @@ opens_unconnected a sound none = record {
   requests = omega (arith, none);
   items = omega arith;
 }
+
+pub opens_over_order : OpensOverOrder
+opens_over_order cap stamp order placed =
+    let a : Single registry_machine = (opened_alone cap order stamp).single in
+    (opens_unconnected a (recovers_sound 1 (length order + 1) stamp 1 cap order (omega arith) placed) refl, recovers_order 1 (length order + 1) stamp 1 cap order)
 
 -- A stream without bytes has no item.
 nothing_comes : Items Server [] [] no_fault

@@ -94,11 +94,6 @@ handles_behind r = without (group_of r.client.association) r.client.handles
 abbrev pub next_alone : AloneRun → AloneRun
 next_alone r = begins_alone r.single (handles_behind r) r.taken
 
--- What the connections come to, one after the other and the first of this number, with these items of each.
-abbrev pub all_alone : ℕ → AloneRun → List (List Item) → List AloneRun
-all_alone c first [] = []
-all_alone c first (items ∷ others) = alone c first items ∷ all_alone (c + 1) (next_alone (alone c first items)) others
-
 -- Node 1 has opened over a log of this capacity that holds this order: its incarnation is one more than the records found.
 abbrev pub opened_alone : ℕ → List Entry → ℕ → AloneRun
 opened_alone cap order stamp = begins_alone (over_order registry_machine 1 (length order + 1) 1 stamp cap order) (fresh 1) 0

@@ -21,9 +21,9 @@ use Rattle.client_connections.specs.Taking.{closes}
 use Rattle.context_handles.specs.Table.{Table}
 use Rattle.context_handles.specs.Table as handles
 use Rattle.gum_core.specs.Updating.{last_place}
-use Rattle.single_rules.specs.Promises.{OnOrder}
+use Rattle.single_rules.specs.Promises.{InPlaces, OnOrder}
 use Rattle.single_rules.specs.Single.{IsSound, Single, at_rest}
-use Rattle.single_items.specs.Alone.{AloneRun, alone, begins_alone, handles_behind}
+use Rattle.single_items.specs.Alone.{AloneRun, alone, begins_alone, next_alone, opened_alone}
 use Rattle.single_items.specs.Events.{AreServed, MessageComes, PieceComes, told_to}
 use Rattle.single_items.specs.Standing.{NodeAlone, StandsAt, Stuck, Way, left_on, node_on, queued_on, waiting_on}
 
@@ -71,11 +71,22 @@ pub record IsUnconnected (z : NodeAlone) (a : Single registry_machine) (handles 
   pub requests : a.passed + queued_on way ≤ taken
   pub items : taken ≤ most_taken
 
+-- The next connection of the node begins with this run.
+abbrev pub IsUnconnectedFor : AloneRun → NodeAlone → Type 0
+IsUnconnectedFor first z = IsUnconnected z first.single first.client.handles first.taken
+
 -- It has just opened alone.
 abbrev pub OpensUnconnected : Type 0
 OpensUnconnected =
     (a : Single registry_machine) → IsSound a → a.passed ≡ 0
     → IsUnconnected (record { node = at_rest a; clients = no_clients a.node; left = [] }) a (handles.fresh a.node) 0
+
+-- So it has over a log that holds an order, and its registry is that of the whole order.
+abbrev pub OpensOverOrder : Type 0
+OpensOverOrder =
+    (cap stamp : ℕ) (order : List Entry) → InPlaces order
+    → IsUnconnectedFor (opened_alone cap order stamp) (record { node = at_rest (opened_alone cap order stamp).single; clients = no_clients 1; left = [] })
+    × OnOrder cap order (opened_alone cap order stamp).single
 
 -- A connection begins, for which no update waits.
 abbrev pub ConnectsAlone : Type 0
@@ -93,7 +104,7 @@ HangingUpLeads c first stream z output records =
 abbrev pub EndsUnconnected : ℕ → AloneRun → List ℕ → NodeAlone → Type 0
 EndsUnconnected c first stream z =
     z.left ≡ [] → z.clients.conns ≡ [] → (all : List Item) (fault : Option IntakeFault) → Items Server stream all fault
-    → IsUnconnected z (alone c first all).single (handles_behind (alone c first all)) (alone c first all).taken
+    → IsUnconnectedFor (next_alone (alone c first all)) z
 
 -- ---- what that says
 

@@ -3,13 +3,15 @@
 ghost use Rattle.std.specs.Prelude.{List, ℕ};
 ghost use Rattle.update_records.specs.Entry.{Entry};
 ghost use Rattle.single_items.specs.Alone.{AloneRun};
-ghost use Rattle.single_items.specs.Promises.{ConnectsAlone, EndsUnconnected, HangingUpLeads, OpensUnconnected};
+ghost use Rattle.single_items.specs.Promises.{ConnectsAlone, EndsUnconnected, HangingUpLeads, OpensOverOrder, OpensUnconnected};
 ghost use Rattle.single_items.specs.Standing.{NodeAlone, StandsAt};
 
-/// A node that has just opened has no connection.
-#[tactic(auto, using(crate::proofs::Connecting::opens_unconnected))]
+/// A node that has just opened has no connection. Over a log that holds an order it begins with the registry of that order, and
+/// in the incarnation behind it.
+#[tactic(auto, using(crate::proofs::Connecting::opens_unconnected, crate::proofs::Connecting::opens_over_order))]
 pub fn opens()
-    ensures { OpensUnconnected }
+    ensures unconnected { OpensUnconnected }
+    ensures over_order { OpensOverOrder }
 {}
 
 /// A connection begins at a node that has none.
