@@ -1,0 +1,14 @@
+pub mod Telling
+pub mod Keeping
+pub mod Taking
+pub mod Serving
+pub mod Submitting
+pub mod Served
+pub mod Finishing
+pub mod Growing
+pub mod Hearing
+pub mod Pieces
+pub mod Connecting
+pub mod AllTaken
+pub mod Fronts
+pub mod Halting

@@ -1,0 +1,4 @@
+pub mod Alone
+pub mod Events
+pub mod Standing
+pub mod Promises
