@@ -1,4 +1,5 @@
 pub mod ConnectionLaws
 pub mod ItemLaws
+pub mod QueueLaws
 pub mod TakingLaws
 pub mod TurnLaws

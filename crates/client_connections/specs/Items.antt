@@ -152,3 +152,8 @@ item_of keys conn s item = answered keys conn (taken s item)
 abbrev pub QueuesNoHandle : Took → ℕ → ℕ → Type 0
 QueuesNoHandle (Queues origin u) before after = after ≡ before
 QueuesNoHandle took before after = Unit {0}
+
+-- An update that waits is valid.
+abbrev pub QueuesValid : Took → Type 0
+QueuesValid (Queues origin u) = IsValid u
+QueuesValid took = Unit {0}

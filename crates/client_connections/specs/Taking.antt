@@ -1,5 +1,5 @@
 -- The items that a connection takes in one event.
-use Rattle.std.specs.Prelude.{◌≡◌, ℕ, ◌+◌, Bool, true, false, not, List, [], ◌∷◌, ◌++◌, length, nat_lt, Option, Some, None, if◌then◌else◌}
+use Rattle.std.specs.Prelude.{◌≡◌, ℕ, ◌+◌, ◌≤◌, Bool, true, false, not, List, [], ◌∷◌, ◌++◌, length, nat_lt, Option, Some, None, IfSome, IsTrue, is_some, if◌then◌else◌}
 use Rattle.std.specs.List.{fold}
 use Rattle.update_records.specs.declared.update.Update.{Update}
 use Rattle.registry_defs.specs.Keys.{Keys}
@@ -20,7 +20,7 @@ use Rattle.client_connections.specs.declared.took.Ending.TheVariants.{Waits, Fai
 use Rattle.client_connections.specs.declared.took.Took.{Took}
 use Rattle.client_connections.specs.declared.took.Took.TheVariants as took
 use Rattle.client_connections.specs.Clients.{Client, Clients, Common, left_by, may_take, most_stream, put_back}
-use Rattle.client_connections.specs.Items.{ClientState, item_of, state}
+use Rattle.client_connections.specs.Items.{ClientState, item_of, most_taken, state}
 
 -- The node as it is after the event: its keys where it is open, and how many records they have.
 pub record Serving : Type 0 where
@@ -114,6 +114,19 @@ goes_on c intake q ending s = put_back c q.common (client_after intake q) s
 abbrev pub effects_of : ℕ → Course → Ending → List Effect
 effects_of c q (Fails fault) = q.effects ++ Closed c (cause_of fault) ∷ []
 effects_of c q ending = q.effects
+
+-- ---- what is queued
+
+abbrev pub count_of : Option Update → ℕ
+count_of None = 0
+count_of (Some update) = 1
+
+-- One update at most, which counts among what was taken, and none where the node isn't open.
+pub record QueuesOne (v : Serving) (before after : Common) (queued : Option Update) : Type 0 where
+  pub waiting : length after.waiting ≡ length before.waiting + count_of queued
+  pub taken : before.taken + count_of queued ≤ after.taken
+  pub few : before.taken ≤ most_taken → after.taken ≤ most_taken
+  pub at_open : IfSome queued (λ _. IsTrue (is_some v.keys))
 
 -- ---- the events
 

@@ -1,6 +1,7 @@
 //! One connection: the bytes of its stream, its association, and the items that it takes.
 
-ghost use Rattle.std.specs.Prelude.{◌≡◌, ◌≤◌, IfOk, option_map};
+ghost use Rattle.std.specs.Prelude.{◌≡◌, ◌≤◌, IfOk, IfSome, option_map};
+ghost use Rattle.update_records.specs.Validity.{IsValid};
 ghost use Rattle.registry_defs.specs.Contents.{keys_in};
 ghost use Rattle.rpc_assoc.specs.Association.{reply_size};
 ghost use Rattle.rpc_assoc.specs.State.{group_of};
@@ -87,8 +88,10 @@ impl Connection {
         registry: Option<&Registry>,
         done: u64,
     ) -> Result<Ending, AllocError>
-        ensures { IfOk result (λ ending. Takes (serving (option_map (λ kept. keys_in kept.now) registry.entry) done) conn self.old.intake self.new.intake
+        requires valid { IfSome taken.old.update IsValid }
+        ensures takes { IfOk result (λ ending. Takes (serving (option_map (λ kept. keys_in kept.now) registry.entry) done) conn self.old.intake self.new.intake
             (course_of shared.old self.old.association taken.old) (course_of shared.new self.new.association taken.new) ending) }
+        ensures valid { IfOk result (λ _. IfSome taken.new.update IsValid) }
     {
         'items: loop {
             match self.turn(shared, taken, conn, registry, done)? {
@@ -107,8 +110,10 @@ impl Connection {
         registry: Option<&Registry>,
         done: u64,
     ) -> Result<Option<Ending>, AllocError>
+        requires valid { IfSome taken.old.update IsValid }
         ensures turn { IfOk result (λ ending. IsTurn (serving (option_map (λ kept. keys_in kept.now) registry.entry) done) conn self.old.intake self.new.intake
             (course_of shared.old self.old.association taken.old) (course_of shared.new self.new.association taken.new) ending) }
+        ensures valid { IfOk result (λ _. IfSome taken.new.update IsValid) }
         ensures shorter { IfOk result (IsShorter self.old.intake self.new.intake) }
     {
         if !shared.may_take(conn) {

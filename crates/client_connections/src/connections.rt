@@ -1,6 +1,7 @@
 //! The connections of a node.
 
-ghost use Rattle.std.specs.Prelude.{◌≡◌, ◌≤◌, [], IfOk, length, None, OnOk, is_some, option_map};
+ghost use Rattle.std.specs.Prelude.{◌≡◌, ◌≤◌, [], IfOk, IfSome, length, None, OnOk, is_some, option_map};
+ghost use Rattle.update_records.specs.Validity.{IsValid};
 ghost use Rattle.registry_defs.specs.Contents.{keys_in};
 ghost use Rattle.client_connections.specs.Clients.{client_at, closings, connected, hung_up, left_if_open, most_clients, no_clients, without_any};
 ghost use Rattle.client_connections.specs.Courses.{EndsBy, GoesSoFar, HearsSoFar, IsClosed};
@@ -139,8 +140,9 @@ impl Connections {
         registry: Option<&Registry>,
         done: u64,
     ) -> Result<Taken, AllocError>
-        ensures { IfOk result (λ taken. Hears (serving (option_map (λ kept. keys_in kept.now) registry.entry) done) conn piece.now (client_at conn self.old)
+        ensures hears { IfOk result (λ taken. Hears (serving (option_map (λ kept. keys_in kept.now) registry.entry) done) conn piece.now (client_at conn self.old)
             self.old self.new taken.effects.items taken.update) }
+        ensures valid { IfOk result (λ taken. IfSome taken.update IsValid) }
     {
         let mut taken = Taken::new(self.shared.alloc);
         match self.hear_so_far(conn, piece, registry, done, &mut taken)? {
@@ -165,8 +167,10 @@ impl Connections {
         done: u64,
         taken: &mut Taken,
     ) -> Result<Option<Heard>, AllocError>
-        ensures { IfOk result (λ heard. HearsSoFar (client_at conn self.old) heard (serving (option_map (λ kept. keys_in kept.now) registry.entry) done) conn piece.now
+        requires valid { IfSome taken.old.update IsValid }
+        ensures heard { IfOk result (λ heard. HearsSoFar (client_at conn self.old) heard (serving (option_map (λ kept. keys_in kept.now) registry.entry) done) conn piece.now
             self.old self.new taken.old taken.new) }
+        ensures valid { IfOk result (λ _. IfSome taken.new.update IsValid) }
     {
         match self.conns.get_mut(&conn) {
             None => Ok(None),
@@ -188,8 +192,9 @@ impl Connections {
         registry: Option<&Registry>,
         done: u64,
     ) -> Result<Taken, AllocError>
-        ensures { IfOk result (λ taken. Resumes (serving (option_map (λ kept. keys_in kept.now) registry.entry) done) conn (client_at conn self.old)
+        ensures resumes { IfOk result (λ taken. Resumes (serving (option_map (λ kept. keys_in kept.now) registry.entry) done) conn (client_at conn self.old)
             self.old self.new taken.effects.items taken.update) }
+        ensures valid { IfOk result (λ taken. IfSome taken.update IsValid) }
     {
         let mut taken = Taken::new(self.shared.alloc);
         match self.go_on(conn, registry, done, &mut taken)? {
@@ -209,8 +214,10 @@ impl Connections {
         done: u64,
         taken: &mut Taken,
     ) -> Result<Option<Ending>, AllocError>
-        ensures { IfOk result (λ ending. GoesSoFar (serving (option_map (λ kept. keys_in kept.now) registry.entry) done) conn (client_at conn self.old)
+        requires valid { IfSome taken.old.update IsValid }
+        ensures went { IfOk result (λ ending. GoesSoFar (serving (option_map (λ kept. keys_in kept.now) registry.entry) done) conn (client_at conn self.old)
             self.old self.new taken.old taken.new ending) }
+        ensures valid { IfOk result (λ _. IfSome taken.new.update IsValid) }
     {
         match self.conns.get_mut(&conn) {
             None => Ok(None),
@@ -223,7 +230,9 @@ impl Connections {
 
     /// With a fault of its stream the connection is closed.
     fn end(&mut self, conn: u32, ending: Ending, taken: &mut Taken) -> Result<(), AllocError>
-        ensures { OnOk result (EndsBy conn ending self.old self.new taken.old taken.new) }
+        requires valid { IfSome taken.old.update IsValid }
+        ensures ends { OnOk result (EndsBy conn ending self.old self.new taken.old taken.new) }
+        ensures valid { OnOk result (IfSome taken.new.update IsValid) }
     {
         match ending {
             Ending::Waits => Ok(()),
@@ -234,7 +243,9 @@ impl Connections {
 
     /// The connection is closed.
     fn close(&mut self, conn: u32, cause: CloseCause, taken: &mut Taken) -> Result<(), AllocError>
-        ensures { OnOk result (IsClosed conn cause self.old self.new taken.old taken.new) }
+        requires valid { IfSome taken.old.update IsValid }
+        ensures closed { OnOk result (IsClosed conn cause self.old self.new taken.old taken.new) }
+        ensures valid { OnOk result (IfSome taken.new.update IsValid) }
     {
         self.leave(conn);
         taken.effects.push(Effect::Closed { conn, cause })?;

@@ -7,7 +7,7 @@ ghost use Rattle.context_handles.specs.Table.{joined};
 ghost use Rattle.rpc_calls.specs.Parts.{ItemFits};
 ghost use Rattle.rpc_assoc.specs.Association.{IsInGroup, SpellsReply, reply_size};
 ghost use Rattle.rpc_assoc.specs.State.{group_of};
-ghost use Rattle.client_connections.specs.Items.{GivesNoHandle, HasEncoding, HasShortResults, IsSendable, QueuesNoHandle, call_answered, called, ended, given_group, item_of, most_taken, replied, state, taken, target_of};
+ghost use Rattle.client_connections.specs.Items.{GivesNoHandle, HasEncoding, HasShortResults, IsSendable, QueuesNoHandle, QueuesValid, call_answered, called, ended, given_group, item_of, most_taken, replied, state, taken, target_of};
 
 use crate::calls;
 use crate::origin::Origin;
@@ -36,6 +36,7 @@ pub(crate) fn item(
         ≡ item_of (option_map (λ kept. keys_in kept.now) registry.entry) conn (state handles.old association.old) item) }
     ensures room { handles.new.serials ≤ handles.old.serials + 1 }
     ensures queues { IfOk result (λ took. QueuesNoHandle took handles.old.serials handles.new.serials) }
+    ensures valid { IfOk result QueuesValid }
 {
     match step(handles, association, item)? {
         AssocOut::Reply(pdu) => Ok(Took::Reply {
@@ -86,6 +87,7 @@ fn answer_call(
         ≡ call_answered (option_map (λ kept. keys_in kept.now) registry.entry) conn (state handles.old association.now) call.now (group_of association.now)) }
     ensures room { handles.new.serials ≤ handles.old.serials + 1 }
     ensures queues { IfOk result (λ took. QueuesNoHandle took handles.old.serials handles.new.serials) }
+    ensures valid { IfOk result QueuesValid }
 {
     let group = group(association);
     answer_in(alloc, handles, association, group, conn, registry, call)
@@ -114,6 +116,7 @@ fn answer_in(
         ≡ replied conn association.now call.now (called (option_map (λ kept. keys_in kept.now) registry.entry) handles.old group call.now)) }
     ensures room { handles.new.serials ≤ handles.old.serials + 1 }
     ensures queues { IfOk result (λ took. QueuesNoHandle took handles.old.serials handles.new.serials) }
+    ensures valid { IfOk result QueuesValid }
 {
     let end = calls::call(alloc, handles, group, registry, call)?;
     ended(alloc, association, conn, call, end)
@@ -132,6 +135,7 @@ fn ended(
     requires sendable { IsSendable end }
     ensures took { IfOk result (λ took. took ≡ ended conn (reply_size association.now.terms) call.now end) }
     ensures queues { (old new : ℕ) → GivesNoHandle end old new → IfOk result (λ took. QueuesNoHandle took old new) }
+    ensures valid { IfOk result QueuesValid }
 {
     let max_xmit = association.max_xmit();
     match end {

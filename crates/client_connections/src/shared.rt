@@ -1,6 +1,7 @@
 //! What all connections of a node share.
 
-ghost use Rattle.std.specs.Prelude.{◌≡◌, ◌∷◌, [], ◌++◌, ◌<◌, true, IfOk, OnOk, option_map};
+ghost use Rattle.std.specs.Prelude.{◌≡◌, ◌∷◌, [], ◌++◌, ◌<◌, true, IfOk, IfSome, OnOk, option_map};
+ghost use Rattle.update_records.specs.Validity.{IsValid};
 ghost use Rattle.std.specs.List.{list_any};
 ghost use Rattle.registry_defs.specs.Contents.{keys_in};
 ghost use Rattle.rpc_calls.specs.Parts.{ItemFits};
@@ -133,8 +134,10 @@ impl Shared {
     ) -> Result<(), AllocError>
         requires may { may_take conn self.old ≡ true }
         requires few { ItemFits item }
-        ensures { OnOk result (course_of self.new association.new taken.new
+        requires valid { IfSome taken.old.update IsValid }
+        ensures course { OnOk result (course_of self.new association.new taken.new
             ≡ takes_one (serving (option_map (λ kept. keys_in kept.now) registry.entry) done) conn (course_of self.old association.old taken.old) item) }
+        ensures valid { OnOk result (IfSome taken.new.update IsValid) }
     {
         self.taken += 1;
         match items::item(
