@@ -1,7 +1,8 @@
 #!/usr/bin/env python3
-"""Whether the usage text, the manual, the manual page and the completions list the same commands.
+"""Whether the program, its usage text, the manual, the manual page and the completions have the same commands.
 
-The usage text is read from the definition that the program's contract cites. It ends with 0 where all agree.
+The usage text and the words of all commands are read from the definitions that the program's contracts cite. The usage
+text names the first commands of the manual; the others are named there alone. It ends with 0 where all agree.
 """
 import pathlib
 import re
@@ -18,6 +19,11 @@ def in_usage():
     """The forms of the commands, each a name with its words, in the order of the text."""
     text = re.search(r'text_of Usage = codes "usage: mscs ([^"]*)"', read("crates/clus_cli/specs/Statuses.antt"))
     return text[1].split(", ")
+
+
+def in_program():
+    """The first word of each form that the program takes."""
+    return re.findall(r'^words_of .*?= codes "(\w+)"', read("crates/command_words/specs/Forms.antt"), re.M)
 
 
 def in_manual():
@@ -43,27 +49,26 @@ def in_completions():
 
 
 def main():
-    usage = in_usage()
-    found = {
-        "docs/commands.md, its head": in_manual(),
-        "docs/commands.md, its sections": in_manual_sections(),
-        "man/mscs.1, its synopsis": in_page(),
-        "man/mscs.1, its commands": in_page_sections(),
+    usage, manual = in_usage(), in_manual()
+    names = [form.split()[0] for form in manual]
+    wanted = {
+        "docs/commands.md, its head, against the usage text": (manual[:len(usage)], usage),
+        "docs/commands.md, its head, against the program": (sorted(names), sorted(in_program())),
+        "docs/commands.md, its sections": (in_manual_sections(), manual),
+        "man/mscs.1, its synopsis": (in_page(), manual),
+        "man/mscs.1, its commands": (in_page_sections(), manual),
+        "completions/mscs.bash": (in_completions(), names),
     }
-    is_good = True
-    for place, commands in found.items():
-        if commands != usage:
-            print(f"{place}: {commands} in place of {usage}")
+    is_good = bool(usage)
+    for place, (found, expected) in wanted.items():
+        if found != expected:
+            print(f"{place}: {found} in place of {expected}")
             is_good = False
-    names = [form.split()[0] for form in usage]
-    if in_completions() != names:
-        print(f"completions/mscs.bash: {in_completions()} in place of {names}")
-        is_good = False
-    if usage and f"`usage: mscs {', '.join(usage)}`" not in read("docs/commands.md"):
+    if f"`usage: mscs {', '.join(usage)}`" not in read("docs/commands.md"):
         print("docs/commands.md: its table of statuses has another usage text")
         is_good = False
     if is_good:
-        print(f"the same {len(usage)} commands everywhere: {', '.join(names)}")
+        print(f"the same {len(manual)} commands everywhere: {', '.join(names)}")
     sys.exit(0 if is_good else 1)
 
 

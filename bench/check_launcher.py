@@ -1,8 +1,8 @@
 #!/usr/bin/env python3
 """Whether the launcher keeps its promises, on a small copy of the repository with a stand-in for the toolchain.
 
-The stand-in takes half a second a crate, writes a program that tells its words, and fails where a source has the
-word `broken`. The real toolchain isn't called. It ends with 0 where every case is as promised.
+The stand-in takes four seconds for one crate, so that it is told, writes a program that tells its words, and fails
+where a source has the word `broken`. The real toolchain isn't called. It ends with 0 where every case is as promised.
 """
 import os
 import pathlib
@@ -16,13 +16,9 @@ CRATES = {
     "low": [], "left": ["low"], "right": ["low"], "joined": ["left", "right"], "mscs": ["joined"], "apart": ["low"],
 }
 STAND_IN = r"""#!/usr/bin/env bash
-crates=$([ -e crates.txt ] && echo crates || echo ../..)
-if grep -rq broken "$crates" --include=*.rt; then echo "not proved"; exit 1; fi
-if [ "$1" = all ]; then
-    for crate in crates/*; do
-        mkdir -p "$crate/out/rlib"; rm -f "$crate/out/rlib/stamp"; sleep 0.7; touch "$crate/out/rlib/stamp"
-        echo "== $(basename "$crate")"
-    done
+if grep -rq broken .. --include=*.rt; then echo "not proved"; exit 1; fi
+if [ "$1" = lib ]; then
+    case "$PWD" in */left) sleep 4 ;; esac
 else
     mkdir -p out
     printf '#!/bin/sh\necho "$(cat) and $*"\n' > out/mscs
@@ -70,7 +66,7 @@ def main():
         see("it builds, and passes words and input on", (ran.returncode, ran.stdout) == (0, "typed and serve -x a b\n"))
         see("it tells how many crates there are, and the time", "5 crates" in ran.stderr and "minutes on" in ran.stderr)
         see("it tells which crate is being proved", "proving left" in ran.stderr)
-        see("and how many are done", "low is done, 2 of 5" in ran.stderr)
+        see("and how many are done", "low is done, 1 of 5" in ran.stderr)
         see("crates that the program doesn't stand on aren't built", "apart" not in ran.stderr)
         ran = run("session", env=bare)
         see("a program that is built runs at once", (ran.returncode, ran.stdout) == (0, "typed and session\n"))
@@ -82,6 +78,7 @@ def main():
         ran = run("session")
         see("where the build fails, no older program is run", (ran.returncode, ran.stdout) == (70, ""))
         see("and that is told", "could not be built" in ran.stderr)
+        see("with what the crate that failed said at the end", ": not proved" in ran.stderr)
         see("and it fails again", run("session").returncode == 70)
         (top / "crates" / "left" / "src" / "lib.rt").write_text("//\n")
         ran = run("session")
