@@ -1,5 +1,5 @@
 -- A piece of the connection's stream leads the node on.
-use Rattle.std.proofs.Common.{◌≡◌, ◌⊎◌, inl, inr, ℕ, ◌≤◌, List, [], ◌∷◌, ◌++◌, Option, Some, None, refl, sym, ap, ◌∙◌, subst}
+use Rattle.std.proofs.Common.{◌≡◌, ◌⊎◌, inl, inr, ℕ, ◌≤◌, List, [], ◌++◌, Option, Some, None, refl, sym, ap, ◌∙◌, subst}
 use Rattle.std.proofs.lemmas.List.{append-nil}
 use Rattle.update_records.specs.Entry.{Entry}
 use Rattle.update_records.specs.declared.update.Update.{Update}
@@ -11,15 +11,15 @@ use Rattle.gum_core.specs.Updating.{last_place}
 use Rattle.single_rules.specs.Single.{Single}
 use Rattle.cluster_rules.specs.declared.effect.CloseCause.{CloseCause}
 use Rattle.cluster_rules.specs.declared.effect.Effect.{Effect}
-use Rattle.cluster_rules.specs.Nodes.{NodeState, Out}
+use Rattle.cluster_rules.specs.Nodes.{NodeState}
 use Rattle.cluster_rules.specs.Worlds.{sent}
 use Rattle.registry_machine.specs.Machine.{registry_machine}
-use Rattle.client_connections.specs.Clients.{Client, Clients, client_at, left_by, waits_at}
-use Rattle.client_connections.specs.Taking.{GoesOn, Hears, HearsBy, Serving, closes, refusal}
+use Rattle.client_connections.specs.Clients.{Client, Clients, client_at}
+use Rattle.client_connections.specs.Taking.{Hears, HearsBy, Serving, closes, refusal}
 use Rattle.single_items.specs.Alone.{AloneRun, alone}
 use Rattle.single_items.specs.Events.{AreServed, IsServedBy, PieceComes, serving_by, submitted_if, told_to}
 use Rattle.single_items.specs.Promises.{IsRefused, PieceLeads}
-use Rattle.single_items.specs.Standing.{Asked, Calm, FitsWay, Granting, GrownFrom, IsHeardOn, IsKeptFrom, Phase, NodeAlone, StandsAt, Stuck, Way, clients_of, left_on, logged_on, node_on, promised_on, queued_on, node_alone, waiting_on}
+use Rattle.single_items.specs.Standing.{Asked, Calm, FitsWay, Granting, GrownFrom, IsHeardOn, IsKeptFrom, Phase, NodeAlone, StandsAt, Stuck, Way, clients_of, left_on, logged_on, node_on, promised_on, queued_on, waiting_on}
 use Rattle.single_items.proofs.Keeping.{found_one, left_one}
 use Rattle.single_items.proofs.Served.{Ready, served, some_is, stand, stand_is}
 use Rattle.single_items.proofs.Serving.{client_of}
@@ -47,21 +47,23 @@ module _ (c : ℕ) (first : AloneRun) (stream piece : List ℕ) (given : List It
     refused kept cause heard fits promised h =
         let none : h.update ≡ None = h.took.update in
         let node : Some (node_on way r.single) ≡ Some y = sym (ap (λ (u : Option Update). (submitted_if u (node_on way r.single)).node) none) ∙ h.node in
-        let says : es ≡ closes c cause = h.effects ∙ ap (λ (u : Option Update). h.told ++ (submitted_if u (node_on way r.single)).effects) none ∙ append-nil h.told ∙ h.took.effects in
-        (record {
-          phase = record { run = r; way = way; intake = None };
-          given = given;
-          is = stand_is y (node_on way r.single) t (clients_of c (waiting_on way) r None) (sent es) (left_on way r.single)
-              (sym (some_is (node_on way r.single) y node))
-              (h.took.clients ∙ left_one (clients_of c (waiting_on way) r (Some kept)).common c (client_of kept r) (client_of kept r))
-              (ap sent says ∙ sym quiet);
-          fits = fits;
-          grown = grown;
-          promised = promised;
-          heard = heard;
-          told = refl;
-          logged = refl;
-        }, inr (cause, says))
+        let says : es ≡ closes c cause = h.effects ∙ ap (λ (u : Option Update). h.told ++ (submitted_if u (node_on way r.single)).effects) none ∙ append-nil h.told ∙ h.took.effects in (
+          record {
+            phase = record { run = r; way = way; intake = None };
+            given = given;
+            is = stand_is y (node_on way r.single) t (clients_of c (waiting_on way) r None) (sent es) (left_on way r.single)
+                (sym (some_is (node_on way r.single) y node))
+                (h.took.clients ∙ left_one (clients_of c (waiting_on way) r (Some kept)).common c (client_of kept r) (client_of kept r))
+                (ap sent says ∙ sym quiet);
+            fits = fits;
+            grown = grown;
+            promised = promised;
+            heard = heard;
+            told = refl;
+            logged = refl;
+          },
+          inr (cause, says),
+        )
 
     taken : (kept : Kept) → AreServed t.conns → Ready c first (stream ++ piece) given way idle r (fed kept piece)
         → IsServedBy (HearsBy None (serving_with r) c piece (client_of kept r) (clients_of c (waiting_on way) r (Some kept))) (node_on way r.single) y t es
@@ -69,7 +71,7 @@ module _ (c : ℕ) (first : AloneRun) (stream piece : List ℕ) (given : List It
     taken kept servers ready h =
         let z = served c first (stream ++ piece) given way idle r (fed kept piece) kept ready y t es servers (record { told = h.told; update = h.update; took = h.took; node = h.node; effects = h.effects }) in
         subst (λ (records : List Entry). Taken r records) (sym logged)
-            (subst (λ (l : List Sent). StandsAt c first (stream ++ piece) (stand y t (l ++ sent es)) (r.output ++ told_to c es) r.records) quiet z)
+        (subst (λ (l : List Sent). StandsAt c first (stream ++ piece) (stand y t (l ++ sent es)) (r.output ++ told_to c es) r.records) quiet z)
 
     by_cause : (kept : Kept) (cause : Option CloseCause) → AreServed t.conns → IsHeardOn way r None stream given → FitsWay c way r None → promised_on way r ≡ alone c first given → Ready c first (stream ++ piece) given way idle r (fed kept piece)
         → IsServedBy (HearsBy cause (serving_with r) c piece (client_of kept r) (clients_of c (waiting_on way) r (Some kept))) (node_on way r.single) y t es
@@ -83,27 +85,29 @@ module _ (c : ℕ) (first : AloneRun) (stream piece : List ℕ) (given : List It
     open_still kept servers heard fits promised ready h serves =
         let s : Clients = clients_of c (waiting_on way) r (Some kept) in
         by_cause kept (refusal kept piece) servers heard fits promised ready
-            (subst (λ (client : Option Client). IsServedBy (Hears (serving_with r) c piece client s) (node_on way r.single) y t es) (found_one s.common c (client_of kept r))
-            (subst (λ (v : Serving). IsServedBy (Hears v c piece (client_at c s) s) (node_on way r.single) y t es) serves h))
+        (subst (λ (client : Option Client). IsServedBy (Hears (serving_with r) c piece client s) (node_on way r.single) y t es) (found_one s.common c (client_of kept r))
+        (subst (λ (v : Serving). IsServedBy (Hears v c piece (client_at c s) s) (node_on way r.single) y t es) serves h))
 
     closed_already : IsHeardOn way r None stream given → FitsWay c way r None → promised_on way r ≡ alone c first given
         → PieceComes c piece (node_on way r.single) (clients_of c (waiting_on way) r None) y t es → Refused r (logged_on way r)
     closed_already heard fits promised h =
         let none : h.update ≡ None = h.took.update in
         let node : Some (node_on way r.single) ≡ Some y = sym (ap (λ (u : Option Update). (submitted_if u (node_on way r.single)).node) none) ∙ h.node in
-        let says : es ≡ [] = h.effects ∙ ap (λ (u : Option Update). h.told ++ (submitted_if u (node_on way r.single)).effects) none ∙ append-nil h.told ∙ h.took.effects in
-        (record {
-          phase = record { run = r; way = way; intake = None };
-          given = given;
-          is = stand_is y (node_on way r.single) t (clients_of c (waiting_on way) r None) (sent es) (left_on way r.single)
-              (sym (some_is (node_on way r.single) y node)) h.took.clients (none_sent says);
-          fits = fits;
-          grown = grown;
-          promised = promised;
-          heard = heard;
-          told = refl;
-          logged = refl;
-        }, inl says)
+        let says : es ≡ [] = h.effects ∙ ap (λ (u : Option Update). h.told ++ (submitted_if u (node_on way r.single)).effects) none ∙ append-nil h.told ∙ h.took.effects in (
+          record {
+            phase = record { run = r; way = way; intake = None };
+            given = given;
+            is = stand_is y (node_on way r.single) t (clients_of c (waiting_on way) r None) (sent es) (left_on way r.single)
+                (sym (some_is (node_on way r.single) y node)) h.took.clients (none_sent says);
+            fits = fits;
+            grown = grown;
+            promised = promised;
+            heard = heard;
+            told = refl;
+            logged = refl;
+          },
+          inl says,
+        )
 
   hears_on : (way : Way) (r : AloneRun) (intake : Option Kept) → FitsWay c way r intake → GrownFrom first (queued_on way) r → promised_on way r ≡ alone c first given → IsHeardOn way r intake stream given
       → left_on way r.single ≡ [] → AreServed t.conns → PieceComes c piece (node_on way r.single) (clients_of c (waiting_on way) r intake) y t es
