@@ -142,6 +142,6 @@ hears_piece c first stream z output records h piece y t es quiet heard servers =
     let left : left_on p.way p.run.single ≡ [] = sym (ap (λ (x : NodeAlone). x.left) h.is) ∙ quiet in
     let found = hears_on c first stream piece h.given y t es p.way p.run p.intake h.fits h.grown h.promised h.heard left servers here in
     let r = subst (λ (x : NodeAlone). StandsAt c first (stream ++ piece) (stand y t (sent es)) (p.run.output ++ told_to c es) (logged_on p.way p.run)
-        ⊎ (StandsAt c first stream (stand y t (sent es)) p.run.output (logged_on p.way p.run) × IsRefused c piece x.clients es)) (sym h.is) found in
+    ⊎ (StandsAt c first stream (stand y t (sent es)) p.run.output (logged_on p.way p.run) × IsRefused c piece x.clients es)) (sym h.is) found in
     subst (λ (l : List ℕ). StandsAt c first (stream ++ piece) (stand y t (sent es)) (l ++ told_to c es) records ⊎ (StandsAt c first stream (stand y t (sent es)) l records × IsRefused c piece z.clients es)) (sym h.told)
     (subst (λ (l : List Entry). StandsAt c first (stream ++ piece) (stand y t (sent es)) (p.run.output ++ told_to c es) l ⊎ (StandsAt c first stream (stand y t (sent es)) p.run.output l × IsRefused c piece z.clients es)) (sym h.logged) r)
