@@ -1,6 +1,5 @@
 -- What it says that the node stands where Alone says.
-use Rattle.std.proofs.Common.{◌≡◌, ◌⊎◌, inl, inr, ℕ, ◌+◌, ◌≤◌, Bool, false, true, if◌then◌else◌, List, [], ◌∷◌, ◌++◌, Option, Some, None, refl, sym, ap, ◌∙◌, subst, arith}
-use Rattle.std.proofs.lemmas.List.{append-nil}
+use Rattle.std.proofs.Common.{◌≡◌, ◌⊎◌, inl, inr, ℕ, Bool, false, if◌then◌else◌, List, [], ◌∷◌, Option, Some, None, refl, sym, ap, ◌∙◌, subst}
 use Rattle.update_records.specs.Entry.{Entry}
 use Rattle.rpc_calls.specs.declared.intake_fault.IntakeFault.{IntakeFault}
 use Rattle.rpc_calls.specs.declared.item.Item.{Item}
@@ -12,13 +11,10 @@ use Rattle.rpc_calls.proofs.StreamUniqueness.{given_front, items_agree}
 use Rattle.gum_messages.specs.Messages.{Sent}
 use Rattle.client_connections.specs.Clients.{Client}
 use Rattle.single_items.proofs.Serving.{client_of}
-use Rattle.client_connections.specs.declared.took.Took.{Took}
 use Rattle.client_connections.specs.Items.{item_of}
-use Rattle.registry_machine.specs.Machine.{registry_machine}
-use Rattle.single_rules.specs.Single.{Single}
 use Rattle.single_items.specs.Alone.{AloneRun, alone, handles_behind, item_alone, takes_alone, took_alone}
-use Rattle.single_items.specs.Promises.{EndsUnconnected, IsAlone, IsUnconnected, IsFullIf, TellsAlone}
-use Rattle.single_items.specs.Standing.{Asked, Calm, FitsWay, Granting, GrownFrom, IsAllTaken, IsHeardOn, IsKeptFrom, Phase, NodeAlone, StandsAt, Stuck, Way, clients_of, left_on, logged_on, node_on, promised_on, queued_on, node_alone, waiting_on}
+use Rattle.single_items.specs.Promises.{EndsUnconnected, IsUnconnected, IsFullIf, TellsAlone}
+use Rattle.single_items.specs.Standing.{Asked, Calm, FitsWay, Granting, IsAllTaken, IsHeardOn, IsKeptFrom, NodeAlone, StandsAt, Stuck, Way, clients_of, left_on, logged_on, node_on, promised_on, queued_on, node_alone, waiting_on}
 use Rattle.single_items.proofs.Hearing.{sound_now}
 use Rattle.single_items.proofs.Served.{alone_both}
 

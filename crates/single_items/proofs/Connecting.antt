@@ -1,27 +1,22 @@
 -- Connections come and go while no message is under way.
-use Rattle.std.proofs.Common.{◌≡◌, ◌⊎◌, inl, inr, ℕ, ◌+◌, ◌≤◌, Bool, false, true, List, [], ◌∷◌, ◌++◌, length, Option, Some, None, refl, sym, ap, ◌∙◌, subst, arith}
-use Rattle.std.proofs.lemmas.List.{append-nil}
+use Rattle.std.proofs.Common.{◌≡◌, inl, ℕ, ◌+◌, ◌≤◌, false, List, [], length, Option, Some, None, refl, sym, ap, ◌∙◌, subst, arith}
 use Rattle.std.specs.List.{list_any}
 use Rattle.update_records.specs.Entry.{Entry}
-use Rattle.rpc_calls.specs.declared.intake_fault.IntakeFault.{IntakeFault}
 use Rattle.rpc_calls.specs.declared.item.Item.{Item}
-use Rattle.rpc_calls.specs.declared.side.Side.{Side}
 use Rattle.rpc_calls.specs.declared.side.Side.TheVariants.{Server}
-use Rattle.rpc_calls.specs.Intakes.{Holds, Kept, fresh, no_fault}
+use Rattle.rpc_calls.specs.Intakes.{Kept, fresh, no_fault}
 use Rattle.rpc_calls.specs.Streams.{Items, Runs}
 use Rattle.rpc_calls.proofs.HoldingLaws.{holds_nothing}
 use Rattle.context_handles.specs.Table.{Table}
-use Rattle.gum_core.specs.Updating.{last_place}
 use Rattle.registry_machine.specs.Machine.{registry_machine}
 use Rattle.client_connections.specs.Items.{most_taken}
 use Rattle.client_connections.specs.Clients.{Client, Clients, client_at, has_waiting, hung_up, waits_at, with_new}
 use Rattle.single_rules.proofs.Opens.{recovers_order, recovers_sound}
 use Rattle.single_rules.specs.Single.{IsSound, Single}
-use Rattle.single_items.specs.Alone.{AloneRun, alone, begins_alone, opened_alone}
-use Rattle.single_items.specs.Promises.{ConnectsAlone, HangingUpLeads, IsUnconnected, IsFullIf, OpensOverOrder, OpensUnconnected}
-use Rattle.single_items.specs.Standing.{Asked, Calm, FitsWay, Granting, GrownFrom, IsAllTaken, IsHeardOn, IsKeptFrom, Phase, NodeAlone, StandsAt, Stuck, Way, clients_of, left_on, logged_on, node_on, promised_on, queued_on, node_alone, waiting_on}
+use Rattle.single_items.specs.Alone.{AloneRun, begins_alone, opened_alone}
+use Rattle.single_items.specs.Promises.{ConnectsAlone, HangingUpLeads, IsFullIf, OpensOverOrder, OpensUnconnected}
+use Rattle.single_items.specs.Standing.{Asked, Calm, FitsWay, Granting, GrownFrom, IsHeardOn, NodeAlone, StandsAt, Stuck, Way, clients_of, left_on, node_on, queued_on, waiting_on}
 use Rattle.single_items.proofs.Keeping.{found_one, left_one}
-use Rattle.single_items.proofs.Served.{stand_is}
 use Rattle.single_items.proofs.Serving.{client_of}
 
 pub opens_unconnected : OpensUnconnected
@@ -89,7 +84,7 @@ pub connects_alone : ConnectsAlone
 connects_alone c z a handles taken free unwaited =
     let none : list_any (waits_at c) (waiting_on free.way) ≡ false = sym (ap (λ (x : NodeAlone). has_waiting c x.clients.common) free.is) ∙ unwaited in
     subst (λ (x : NodeAlone). StandsAt c (begins_alone a handles taken) [] (record x { clients = with_new c x.clients }) [] []) (sym free.is)
-        (begins_at c a handles taken free.way free.full free.left free.sound free.requests free.items none)
+    (begins_at c a handles taken free.way free.full free.left free.sound free.requests free.items none)
 
 module _ (c : ℕ) (first : AloneRun) (stream : List ℕ) (given : List Item) where
   hung : (r : AloneRun) (way : Way) (intake : Option Kept) → (hung_up c (client_at c (clients_of c (waiting_on way) r intake)) (clients_of c (waiting_on way) r intake)).0 ≡ clients_of c (waiting_on way) r None

@@ -1,15 +1,15 @@
 -- The answer of the connection's update is Alone's.
-use Rattle.std.proofs.Common.{◌≡◌, ℕ, ◌+◌, List, [], ◌∷◌, ◌++◌, Option, Some, None, refl, sym, ap, ◌∙◌, subst}
+use Rattle.std.proofs.Common.{◌≡◌, ℕ, List, [], ◌∷◌, Option, Some, refl, sym, ap, ◌∙◌, subst}
 use Rattle.ndr_values.specs.declared.handle.WireHandle.{WireHandle}
 use Rattle.registry_defs.specs.declared.outcome.Outcome.{Outcome}
 use Rattle.context_handles.specs.Table.{Table}
-use Rattle.rpc_assoc.specs.State.{State, group_of}
+use Rattle.rpc_assoc.specs.State.{group_of}
 use Rattle.rpc_calls.specs.Intakes.{Kept}
 use Rattle.cluster_rules.specs.declared.effect.Effect.TheVariants.{Reply}
 use Rattle.client_connections.specs.declared.origin.Origin.{Origin}
 use Rattle.client_connections.specs.declared.origin.Origin.TheVariants.{Call, Batch}
 use Rattle.client_connections.specs.Clients.{Client, Clients}
-use Rattle.client_connections.specs.Finishing.{Finish, call_finished, finished, opened_in, opened_on, replied, without_first}
+use Rattle.client_connections.specs.Finishing.{Finish, call_finished, finished, opened_in, opened_on, replied}
 use Rattle.client_connections.specs.Items.{ClientState}
 use Rattle.single_items.specs.Alone.{AloneRun, answer_alone, replied_alone}
 use Rattle.single_items.specs.Standing.{IsCallOf, clients_of}
@@ -39,9 +39,9 @@ pub finishes : (c req place : ℕ) (origin : Origin) (outcome : Outcome) (r : Al
     → finished (origin ∷ []) req place (Some outcome) (clients_of c (origin ∷ []) r (Some intake)) ≡ answered_with c place r intake (answer_alone origin outcome r.client)
 finishes c req place (Call conn call_id context opnum target) outcome r intake own =
     subst (λ (n : ℕ). finished (Call n call_id context opnum target ∷ []) req place (Some outcome) (clients_of c (Call n call_id context opnum target ∷ []) r (Some intake))
-        ≡ answered_with c place r intake (answer_alone (Call n call_id context opnum target) outcome r.client)) (sym own)
+    ≡ answered_with c place r intake (answer_alone (Call n call_id context opnum target) outcome r.client)) (sym own)
     (ap (λ (client : Option Client). call_finished c call_id context opnum target place outcome client (clients_of c [] r (Some intake)))
-        (found_one (clients_of c [] r (Some intake)).common c (client_of intake r))
+    (found_one (clients_of c [] r (Some intake)).common c (client_of intake r))
     ∙ replies c place call_id context opnum outcome r intake (opened_in (group_of r.client.association) (opened_on target outcome) r.client.handles))
 finishes c req place Batch outcome r intake own = absurd own
 

@@ -1,11 +1,9 @@
 -- Alone's answers and records grow with the items, so that those so far are the first.
-use Rattle.std.proofs.Common.{◌≡◌, ◌⊎◌, inl, inr, ℕ, ◌+◌, ◌<◌, ◌≤◌, Bool, false, true, if◌then◌else◌, nat_lt, List, [], ◌∷◌, ◌++◌, Option, Some, None, refl, sym, ap, ◌∙◌, subst, append_assoc, arith}
+use Rattle.std.proofs.Common.{◌≡◌, ◌⊎◌, inl, inr, ℕ, ◌+◌, ◌<◌, Bool, false, true, if◌then◌else◌, nat_lt, List, [], ◌∷◌, ◌++◌, Option, Some, None, refl, sym, ap, ◌∙◌, subst, append_assoc}
 use Rattle.std.proofs.lemmas.List.{append-nil}
-use Rattle.std.specs.Option.{option_to_list}
 use Rattle.update_records.specs.Entry.{Entry}
 use Rattle.update_records.specs.declared.update.Update.{Update}
 use Rattle.gum_core.specs.Updating.{last_place}
-use Rattle.gum_messages.specs.Messages.{Sent}
 use Rattle.rpc_calls.proofs.StreamUniqueness.{given_front, items_agree}
 use Rattle.rpc_calls.specs.declared.intake_fault.IntakeFault.{IntakeFault}
 use Rattle.rpc_calls.specs.declared.item.Item.{Item}
@@ -17,12 +15,11 @@ use Rattle.client_connections.specs.declared.origin.Origin.{Origin}
 use Rattle.client_connections.specs.declared.took.Took.{Took}
 use Rattle.client_connections.specs.declared.took.Took.TheVariants.{Nothing, Reply, Queues}
 use Rattle.client_connections.specs.Items.{ClientState, item_of}
-use Rattle.registry_machine.specs.Machine.{registry_machine}
 use Rattle.single_rules.proofs.Comparisons.{less}
-use Rattle.single_rules.specs.Single.{Single, ask, asking, grant, granting, lock_of, made, outcome_of, release, updated}
+use Rattle.single_rules.specs.Single.{made, outcome_of}
 use Rattle.single_items.specs.Alone.{AloneRun, alone, answer_alone, done_alone, item_alone, takes_alone, took_alone, update_alone}
 use Rattle.single_items.specs.Promises.{BeginsWith, TellsFirst}
-use Rattle.single_items.specs.Standing.{Asked, Calm, FitsWay, Granting, GrownFrom, IsAllTaken, IsHeardOn, IsKeptFrom, Lately, Phase, NodeAlone, StandsAt, Stuck, Way, left_on, logged_on, node_on, promised_on, queued_on, node_alone}
+use Rattle.single_items.specs.Standing.{Asked, Calm, FitsWay, Granting, IsAllTaken, IsHeardOn, IsKeptFrom, NodeAlone, StandsAt, Stuck, Way, logged_on, promised_on}
 use Rattle.single_items.proofs.Served.{alone_both}
 
 pub begins_itself : {A : Type 0} (xs : List A) → BeginsWith xs xs
@@ -77,7 +74,7 @@ pub made_first : (origin : Origin) (u : Update) (r : AloneRun) → r.single.done
 made_first origin u r room =
     let p = less r.single.done last_place room in
     subst (λ (b : Bool). BeginsWith (if b then done_alone u (answer_alone origin (outcome_of r.single u) r.client) r else record r { waits = true }).records (r.records ++ made r.single u ∷ [])) (sym p)
-        (of_pair (answer_alone origin (outcome_of r.single u) r.client))
+    (of_pair (answer_alone origin (outcome_of r.single u) r.client))
   where
     of_pair : (p : List ℕ × ClientState) → BeginsWith (done_alone u p r).records (r.records ++ made r.single u ∷ [])
     of_pair (bytes, n) = begins_itself (r.records ++ made r.single u ∷ [])
@@ -113,7 +110,7 @@ module _ (stream : List ℕ) (given all : List Item) (fault : Option IntakeFault
 pub all_beyond : (c : ℕ) (first : AloneRun) (given all : List Item) (way : Way) (r : AloneRun) → promised_on way r ≡ alone c first given → (more : List Item) × (all ≡ given ++ more) → GoesBeyond (alone c first all) (promised_on way r)
 all_beyond c first given all way r promised (more, is) =
     subst (λ (x : AloneRun). GoesBeyond x (promised_on way r))
-        (ap (λ (s : AloneRun). alone c s more) promised ∙ alone_both c first given more ∙ ap (alone c first) (sym is)) (grows c more (promised_on way r))
+    (ap (λ (s : AloneRun). alone c s more) promised ∙ alone_both c first given more ∙ ap (alone c first) (sym is)) (grows c more (promised_on way r))
 
 pub tells_first : (c : ℕ) (first : AloneRun) (stream : List ℕ) (z : NodeAlone) (output : List ℕ) (records : List Entry) → StandsAt c first stream z output records → TellsFirst c first stream output records
 tells_first c first stream z output records h all fault items =

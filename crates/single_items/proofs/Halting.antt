@@ -1,5 +1,5 @@
 -- Where the log doesn't take a record, the node halts, and what it told is Alone's; and the order that the log holds goes on.
-use Rattle.std.proofs.Common.{◌≡◌, ℕ, ◌+◌, ◌<◌, ◌≤◌, Bool, false, true, nat_lt, List, [], ◌∷◌, ◌++◌, length, Option, Some, None, refl, sym, ap, ◌∙◌, subst, append_assoc, arith}
+use Rattle.std.proofs.Common.{◌≡◌, ℕ, ◌+◌, ◌<◌, ◌≤◌, Bool, false, true, nat_lt, List, [], ◌∷◌, ◌++◌, Option, Some, None, refl, sym, ap, ◌∙◌, subst, append_assoc, arith}
 use Rattle.std.proofs.lemmas.List.{append-nil}
 use Rattle.std.specs.Option.{option_to_list}
 use Rattle.update_records.specs.Entry.{Entry}
@@ -9,7 +9,6 @@ use Rattle.gum_messages.specs.Messages.{Sent}
 use Rattle.rpc_calls.specs.Intakes.{Kept}
 use Rattle.cluster_rules.specs.declared.effect.Effect.TheVariants.{Acked, Send}
 use Rattle.cluster_rules.specs.declared.effect.HaltCause.TheVariants as halt
-use Rattle.cluster_rules.specs.Machines.{registry_at}
 use Rattle.cluster_rules.specs.Nodes.{NodeState, acknowledges, becomes, halts, nothing}
 use Rattle.cluster_rules.specs.Receiving.{receive}
 use Rattle.cluster_rules.specs.Updates.{Answer, InDoubt, Logged, Unwritten, Written, unlogged}
@@ -19,13 +18,12 @@ use Rattle.single_rules.proofs.Events.{finishes_one, grants_one}
 use Rattle.single_rules.proofs.Orders.{keeps_order}
 use Rattle.single_rules.proofs.Refused.{grants_none, halts_fenced, halts_in_doubt, halts_unwritten}
 use Rattle.single_rules.specs.Promises.{OnOrder}
-use Rattle.single_rules.specs.Rounds.{after_all, all_made}
+use Rattle.single_rules.specs.Rounds.{all_made}
 use Rattle.single_rules.specs.Single.{Single, ask, asking, at_rest, grant, granting, made, outcome_of, release, releasing, updated}
 use Rattle.single_items.specs.Alone.{AloneRun, alone}
 use Rattle.single_items.specs.Promises.{BeginsWith, HaltsAlone, IsOnOrder, OrderGoesOn}
-use Rattle.single_items.specs.Standing.{Asked, Calm, FitsWay, Granting, GrownFrom, Lately, NodeAlone, StandsAt, Stuck, Way, left_on, logged_on, node_on, promised_on, queued_on}
-use Rattle.single_items.proofs.Fronts.{all_beyond, among, begins_itself, begins_more, made_first, promised_beyond}
-use Rattle.single_items.proofs.Growing.{after_both, made_both}
+use Rattle.single_items.specs.Standing.{Asked, Calm, FitsWay, Granting, GrownFrom, NodeAlone, StandsAt, Stuck, Way, left_on, logged_on, node_on, promised_on, queued_on}
+use Rattle.single_items.proofs.Fronts.{all_beyond, among, begins_more, made_first, promised_beyond}
 use Rattle.single_items.proofs.Hearing.{frees_asked, frees_calm, on_first, sound_now}
 
 -- Where it halts, so is what the records and one in doubt are.
@@ -52,43 +50,43 @@ module _ (first : AloneRun) (held : ℕ) (answer : Answer) where
     own : (b : Answer) → answer ≡ b → r.single.done < last_place → held ≤ r.single.view → HaltsBy Way0 r (ask r.single u)
     own Written e room mine =
         by_event Way0 r (ask r.single u) (record { out = becomes (granting r.single u) (Send (grant r.single u) ∷ []); appended = Some (made r.single u); doubtful = None })
-            (ap (receive (asking r.single u) (ask r.single u) held) e ∙ grants_one r.single u held (sound_now first r 1 grown) room mine)
-            (goes_on Way0 r (record { out = becomes (granting r.single u) (Send (grant r.single u) ∷ []); appended = Some (made r.single u); doubtful = None }) (granting r.single u) refl)
+        (ap (receive (asking r.single u) (ask r.single u) held) e ∙ grants_one r.single u held (sound_now first r 1 grown) room mine)
+        (goes_on Way0 r (record { out = becomes (granting r.single u) (Send (grant r.single u) ∷ []); appended = Some (made r.single u); doubtful = None }) (granting r.single u) refl)
     own InDoubt e room mine =
         by_event Way0 r (ask r.single u) (record { out = halts halt.Disk; appended = None; doubtful = Some (made r.single u) })
-            (ap (receive (asking r.single u) (ask r.single u) held) e ∙ halts_in_doubt r.single u held (sound_now first r 1 grown) room mine)
-            (λ stops. made_first origin u r room)
+        (ap (receive (asking r.single u) (ask r.single u) held) e ∙ halts_in_doubt r.single u held (sound_now first r 1 grown) room mine)
+        (λ stops. made_first origin u r room)
     own Unwritten e room mine =
         by_event Way0 r (ask r.single u) (unlogged (halts halt.Disk))
-            (ap (receive (asking r.single u) (ask r.single u) held) e ∙ halts_unwritten r.single u held (sound_now first r 1 grown) room mine)
-            (λ stops. no_doubt origin u r)
+        (ap (receive (asking r.single u) (ask r.single u) held) e ∙ halts_unwritten r.single u held (sound_now first r 1 grown) room mine)
+        (λ stops. no_doubt origin u r)
 
     by_view : (b : Bool) → nat_lt r.single.view held ≡ b → r.single.done < last_place → HaltsBy Way0 r (ask r.single u)
     by_view true e room =
         by_event Way0 r (ask r.single u) (unlogged (halts (halt.Fenced held))) (halts_fenced r.single u held answer (sound_now first r 1 grown) room (grind (arith, e)))
-            (λ stops. no_doubt origin u r)
+        (λ stops. no_doubt origin u r)
     by_view false e room = own answer refl room (grind (arith, e))
 
     by_place : (b : Bool) → nat_lt r.single.done last_place ≡ b → HaltsBy Way0 r (ask r.single u)
     by_place true e = by_view (nat_lt r.single.view held) refl (grind (arith, e))
     by_place false e =
         by_event Way0 r (ask r.single u) (unlogged (nothing (asking r.single u))) (grants_none r.single u held answer (sound_now first r 1 grown) (grind (arith, e)))
-            (goes_on Way0 r (unlogged (nothing (asking r.single u))) (asking r.single u) refl)
+        (goes_on Way0 r (unlogged (nothing (asking r.single u))) (asking r.single u) refl)
 
   halts_on : (c : ℕ) (way : Way) (r : AloneRun) (intake : Option Kept) (p : Sent) (left : List Sent) → FitsWay c way r intake → GrownFrom first (queued_on way) r → left_on way r.single ≡ p ∷ left → HaltsBy way r p
   halts_on c (Calm None) r intake p left fits grown e = absurd (cc)
   halts_on c (Calm (Some l)) r intake p left fits grown e =
       on_first (λ q rest. HaltsBy (Calm (Some l)) r q) (release l.before) p [] left e
-          (by_event (Calm (Some l)) r (release l.before) (unlogged (nothing (at_rest r.single))) (frees_calm l r.single held answer fits.0) (goes_on (Calm (Some l)) r (unlogged (nothing (at_rest r.single))) (at_rest r.single) refl))
+      (by_event (Calm (Some l)) r (release l.before) (unlogged (nothing (at_rest r.single))) (frees_calm l r.single held answer fits.0) (goes_on (Calm (Some l)) r (unlogged (nothing (at_rest r.single))) (at_rest r.single) refl))
   halts_on c (Asked (Some l) origin u) r intake p left fits grown e =
       on_first (λ q rest. HaltsBy (Asked (Some l) origin u) r q) (release l.before) p (ask r.single u ∷ []) left e
-          (by_event (Asked (Some l) origin u) r (release l.before) (unlogged (nothing (asking r.single u))) (frees_asked l r.single u held answer fits.0) (goes_on (Asked (Some l) origin u) r (unlogged (nothing (asking r.single u))) (asking r.single u) refl))
+      (by_event (Asked (Some l) origin u) r (release l.before) (unlogged (nothing (asking r.single u))) (frees_asked l r.single u held answer fits.0) (goes_on (Asked (Some l) origin u) r (unlogged (nothing (asking r.single u))) (asking r.single u) refl))
   halts_on c (Asked None origin u) r intake p left fits grown e =
       on_first (λ q rest. HaltsBy (Asked None origin u) r q) (ask r.single u) p [] left e (by_place origin u r grown (nat_lt r.single.done last_place) refl)
   halts_on c (Granting origin u) r intake p left fits grown e =
       on_first (λ q rest. HaltsBy (Granting origin u) r q) (grant r.single u) p [] left e
-          (by_event (Granting origin u) r (grant r.single u) (unlogged (acknowledges (releasing r.single u) (Some (outcome_of r.single u)) (Acked r.single.view (r.single.done + 1) ∷ Send (release r.single) ∷ [])))
-              (finishes_one r.single u held answer (sound_now first r 1 grown)) (goes_on (Granting origin u) r (unlogged (acknowledges (releasing r.single u) (Some (outcome_of r.single u)) (Acked r.single.view (r.single.done + 1) ∷ Send (release r.single) ∷ []))) (releasing r.single u) refl))
+      (by_event (Granting origin u) r (grant r.single u) (unlogged (acknowledges (releasing r.single u) (Some (outcome_of r.single u)) (Acked r.single.view (r.single.done + 1) ∷ Send (release r.single) ∷ [])))
+      (finishes_one r.single u held answer (sound_now first r 1 grown)) (goes_on (Granting origin u) r (unlogged (acknowledges (releasing r.single u) (Some (outcome_of r.single u)) (Acked r.single.view (r.single.done + 1) ∷ Send (release r.single) ∷ []))) (releasing r.single u) refl))
   halts_on c (Stuck head others origins) r intake p left fits grown e = absurd (cc)
 
 pub halts_alone : (c : ℕ) (first : AloneRun) (stream : List ℕ) (z : NodeAlone) (output : List ℕ) (records : List Entry) → StandsAt c first stream z output records → HaltsAlone c first stream z output records
@@ -117,7 +115,7 @@ behind_all : (first : AloneRun) (queued : ℕ) (r : AloneRun) → GrownFrom firs
 behind_all first queued r g cap order none on =
     let whole : r.records ≡ all_made first.single g.updates = g.records ∙ ap (λ (l : List Entry). l ++ all_made first.single g.updates) none in
     subst (λ (l : List Entry). OnOrder cap (order ++ l) r.single) (sym whole)
-        (subst (λ (a : Single registry_machine). OnOrder cap (order ++ all_made first.single g.updates) a) (sym g.single) (keeps_order cap order first.single g.updates on))
+    (subst (λ (a : Single registry_machine). OnOrder cap (order ++ all_made first.single g.updates) a) (sym g.single) (keeps_order cap order first.single g.updates on))
 
 behind_one : (r : AloneRun) (u : Update) (cap : ℕ) (order : List Entry) → OnOrder cap (order ++ r.records) r.single → OnOrder cap (order ++ (r.records ++ made r.single u ∷ [])) (updated r.single u)
 behind_one r u cap order on = subst (λ (l : List Entry). OnOrder cap l (updated r.single u)) (append_assoc order r.records (made r.single u ∷ [])) (keeps_order cap (order ++ r.records) r.single (u ∷ []) on)

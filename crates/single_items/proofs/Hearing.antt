@@ -1,11 +1,9 @@
 -- A message that the node sent to itself leaves it where Alone says.
-use Rattle.std.proofs.Common.{◌≡◌, ◌⊎◌, inl, inr, ℕ, ◌+◌, ◌≤◌, ◌<◌, Bool, true, false, ◌||◌, List, [], ◌∷◌, ◌++◌, Option, Some, None, nat_lt, if◌then◌else◌, refl, sym, ap, ◌∙◌, subst, append_assoc, arith}
+use Rattle.std.proofs.Common.{◌≡◌, inr, ℕ, ◌+◌, ◌≤◌, ◌<◌, Bool, true, false, ◌||◌, List, [], ◌∷◌, ◌++◌, Option, Some, None, nat_lt, if◌then◌else◌, refl, sym, ap, ◌∙◌, subst, append_assoc, arith}
 use Rattle.std.proofs.lemmas.List.{append-nil}
-use Rattle.std.specs.List.{list_any}
 use Rattle.std.specs.Option.{option_to_list}
 use Rattle.update_records.specs.Entry.{Entry}
 use Rattle.update_records.specs.declared.update.Update.{Update}
-use Rattle.registry_defs.specs.declared.outcome.Outcome.{Outcome}
 use Rattle.rpc_assoc.specs.State.{State}
 use Rattle.rpc_calls.specs.declared.item.Item.{Item}
 use Rattle.rpc_calls.specs.Intakes.{Kept}
@@ -20,27 +18,26 @@ use Rattle.cluster_rules.specs.Updates.{Answer, InDoubt, Logged, Unwritten, Writ
 use Rattle.cluster_rules.specs.Worlds.{acked, sent}
 use Rattle.registry_machine.specs.Machine.{registry_machine}
 use Rattle.client_connections.specs.declared.origin.Origin.{Origin}
-use Rattle.client_connections.specs.Clients.{Client, Clients, client_at, waits_at}
-use Rattle.client_connections.specs.Finishing.{Finish, finished}
+use Rattle.client_connections.specs.Clients.{Client, Clients, waits_at}
+use Rattle.client_connections.specs.Finishing.{Finish}
 use Rattle.client_connections.specs.Items.{ClientState}
-use Rattle.client_connections.specs.Taking.{GoesOn, Resumes}
+use Rattle.client_connections.specs.Taking.{Resumes}
 use Rattle.single_rules.proofs.Comparisons.{less, not_less, same}
 use Rattle.single_rules.proofs.Events.{finishes_one, frees_next, frees_one, grants_one}
 use Rattle.single_rules.proofs.InTurn.{stays_sound}
 use Rattle.single_rules.proofs.Refused.{grants_none, halts_fenced, halts_in_doubt, halts_unwritten}
-use Rattle.single_rules.specs.Rounds.{after_all, all_made}
+use Rattle.single_rules.specs.Rounds.{all_made}
 use Rattle.single_rules.specs.Single.{IsSound, Single, ask, asking, at_rest, grant, granting, lock_of, made, outcome_of, release, releasing, updated, with_queue}
 use Rattle.single_items.specs.Alone.{AloneRun, alone, answer_alone, done_alone, update_alone}
-use Rattle.single_items.specs.Events.{AnswersHead, AreServed, FollowsAcks, MessageComes, IsServedBy, GoesFurther, serving_by, told_by, told_to, answer_behind}
+use Rattle.single_items.specs.Events.{AnswersHead, AreServed, FollowsAcks, MessageComes, GoesFurther, told_to}
 use Rattle.single_items.specs.Promises.{MessageLeads}
-use Rattle.single_items.specs.Standing.{Asked, Calm, FitsWay, Granting, GrownFrom, IsBehind, IsCallOf, IsHeardOn, IsKeptFrom, IsOpen, Lately, Phase, NodeAlone, StandsAt, Stuck, Way, clients_of, left_on, lock_behind, logged_on, node_on, promised_on, queued_on, release_behind, node_alone, waiting_on}
-use Rattle.single_items.proofs.Finishing.{answered_clients, answered_with, finishes, keeps_association}
+use Rattle.single_items.specs.Standing.{Asked, Calm, FitsWay, Granting, GrownFrom, IsBehind, IsCallOf, IsHeardOn, IsKeptFrom, Lately, NodeAlone, StandsAt, Stuck, Way, clients_of, left_on, logged_on, node_on, promised_on, queued_on, node_alone, waiting_on}
+use Rattle.single_items.proofs.Finishing.{answered_clients, finishes, keeps_association}
 use Rattle.single_items.proofs.Growing.{after_both, made_both}
 use Rattle.single_items.proofs.Keeping.{found_one}
 use Rattle.single_items.proofs.Served.{Ready, served, some_is, stand, stand_is}
 use Rattle.single_items.proofs.Serving.{client_of}
 use Rattle.single_items.proofs.Taking.{serving_with, waits_for_it}
-use Rattle.single_items.proofs.Telling.{sent_both, told_both}
 
 -- What is behind an event of the protocol that left this.
 abbrev HeardBy : Logged registry_machine → ℕ → Clients → NodeState registry_machine → Clients → List Effect → Type 0
@@ -61,13 +58,13 @@ pub frees_calm : (l : Lately) (a : Single registry_machine) (held : ℕ) (answer
     → receive (with_queue a [] (Some (lock_of l.before)) None) (release l.before) held answer ≡ unlogged (nothing (at_rest a))
 frees_calm l a held answer (is, sound) =
     subst (λ (b : Single registry_machine). receive (with_queue b [] (Some (lock_of l.before)) None) (release l.before) held answer ≡ unlogged (nothing (at_rest b))) (sym is)
-        (frees_one l.before l.update held answer sound)
+    (frees_one l.before l.update held answer sound)
 
 pub frees_asked : (l : Lately) (a : Single registry_machine) (u : Update) (held : ℕ) (answer : Answer) → IsBehind (Some l) a
     → receive (with_queue a (u ∷ []) (Some (lock_of l.before)) None) (release l.before) held answer ≡ unlogged (nothing (asking a u))
 frees_asked l a u held answer (is, sound) =
     subst (λ (b : Single registry_machine). receive (with_queue b (u ∷ []) (Some (lock_of l.before)) None) (release l.before) held answer ≡ unlogged (nothing (asking b u))) (sym is)
-        (frees_next l.before l.update u held answer sound)
+    (frees_next l.before l.update u held answer sound)
 
 module _ (c : ℕ) (first : AloneRun) (stream : List ℕ) (given : List Item) (y : NodeState registry_machine) (t : Clients) (es : List Effect) where
   abbrev Stood : AloneRun → List Sent → List Entry → Type 0
@@ -121,14 +118,14 @@ module _ (c : ℕ) (first : AloneRun) (stream : List ℕ) (given : List Item) (y
       → IsHeardOn (Calm (Some l)) r intake stream given → Hears (Calm (Some l)) r intake (release l.before) [] held answer
   hears_free l r intake held answer fits grown promised heard =
       by_event (Calm (Some l)) r intake (release l.before) [] held answer (unlogged (nothing (at_rest r.single))) (frees_calm l r.single held answer fits.0)
-          (same_heard (Calm (Some l)) (Calm None) r intake (tt, fits.1) grown promised (freed_heard l r intake heard) refl refl [] refl)
+      (same_heard (Calm (Some l)) (Calm None) r intake (tt, fits.1) grown promised (freed_heard l r intake heard) refl refl [] refl)
 
   hears_free_asked : (l : Lately) (origin : Origin) (u : Update) (r : AloneRun) (intake : Option Kept) (held : ℕ) (answer : Answer) → FitsWay c (Asked (Some l) origin u) r intake → GrownFrom first 1 r
       → update_alone origin u r ≡ alone c first given → IsHeardOn (Asked (Some l) origin u) r intake stream given
       → Hears (Asked (Some l) origin u) r intake (release l.before) (ask r.single u ∷ []) held answer
   hears_free_asked l origin u r intake held answer fits grown promised heard =
       by_event (Asked (Some l) origin u) r intake (release l.before) (ask r.single u ∷ []) held answer (unlogged (nothing (asking r.single u))) (frees_asked l r.single u held answer fits.0)
-          (same_heard (Asked (Some l) origin u) (Asked None origin u) r intake (tt, fits.1, fits.2, fits.3) grown promised (freed_asked l origin u r intake heard) refl refl (ask r.single u ∷ []) refl)
+      (same_heard (Asked (Some l) origin u) (Asked None origin u) r intake (tt, fits.1, fits.2, fits.3) grown promised (freed_asked l origin u r intake heard) refl refl (ask r.single u ∷ []) refl)
 
   -- ---- an Ask
 
@@ -142,10 +139,10 @@ module _ (c : ℕ) (first : AloneRun) (stream : List ℕ) (given : List Item) (y
         let a : Single registry_machine = r.single in
         let p = not_less a.done last_place full in
         by_event (Asked None origin u) r (Some kept) (ask a u) [] held answer (unlogged (nothing (asking a u))) (grants_none a u held answer (sound_now first r 1 grown) full)
-            (λ h. stuck p (same_heard (Asked None origin u) (Stuck u [] (origin ∷ [])) (record r { waits = true }) (Some kept)
-                (full, sym (list_first (waits_at c origin) (waits_for_it c origin own)))
-                (record { sound = grown.sound; updates = grown.updates; single = grown.single; records = grown.records; requests = grown.requests; items = grown.items })
-                (full_promised p ∙ promised) (heard, inr refl) refl refl [] refl h))
+        (λ h. stuck p (same_heard (Asked None origin u) (Stuck u [] (origin ∷ [])) (record r { waits = true }) (Some kept)
+        (full, sym (list_first (waits_at c origin) (waits_for_it c origin own)))
+        (record { sound = grown.sound; updates = grown.updates; single = grown.single; records = grown.records; requests = grown.requests; items = grown.items })
+        (full_promised p ∙ promised) (heard, inr refl) refl refl [] refl h))
       where
         stuck : {A : Type 0} → nat_lt r.single.done last_place ≡ false → A → A
         stuck p x = x
@@ -160,7 +157,7 @@ module _ (c : ℕ) (first : AloneRun) (stream : List ℕ) (given : List Item) (y
     asks_fenced : r.single.done < last_place → r.single.view < held → Event
     asks_fenced room later =
         by_event (Asked None origin u) r (Some kept) (ask r.single u) [] held answer (unlogged (halts (halt.Fenced held))) (halts_fenced r.single u held answer (sound_now first r 1 grown) room later)
-            (λ h. absurd (stops_not (unlogged (halts (halt.Fenced held))) r.single.passed (clients_of c (origin ∷ []) r (Some kept)) refl h))
+        (λ h. absurd (stops_not (unlogged (halts (halt.Fenced held))) r.single.passed (clients_of c (origin ∷ []) r (Some kept)) refl h))
 
     logs_one : r.single.done < last_place
         → HeardBy (record { out = becomes (granting r.single u) (Send (grant r.single u) ∷ []); appended = Some (made r.single u); doubtful = None }) r.single.passed (clients_of c (origin ∷ []) r (Some kept)) y t es
@@ -181,18 +178,18 @@ module _ (c : ℕ) (first : AloneRun) (stream : List ℕ) (given : List Item) (y
     asks_own : (b : Answer) → answer ≡ b → r.single.done < last_place → held ≤ r.single.view → Event
     asks_own Written e room mine =
         by_event (Asked None origin u) r (Some kept) (ask r.single u) [] held answer
-            (record { out = becomes (granting r.single u) (Send (grant r.single u) ∷ []); appended = Some (made r.single u); doubtful = None })
-            (ap (receive (asking r.single u) (ask r.single u) held) e ∙ grants_one r.single u held (sound_now first r 1 grown) room mine)
-            (logs_one room)
+        (record { out = becomes (granting r.single u) (Send (grant r.single u) ∷ []); appended = Some (made r.single u); doubtful = None })
+        (ap (receive (asking r.single u) (ask r.single u) held) e ∙ grants_one r.single u held (sound_now first r 1 grown) room mine)
+        (logs_one room)
     asks_own InDoubt e room mine =
         let d : Logged registry_machine = record { out = halts halt.Disk; appended = None; doubtful = Some (made r.single u) } in
         by_event (Asked None origin u) r (Some kept) (ask r.single u) [] held answer d
-            (ap (receive (asking r.single u) (ask r.single u) held) e ∙ halts_in_doubt r.single u held (sound_now first r 1 grown) room mine)
-            (λ h. absurd (stops_not d r.single.passed (clients_of c (origin ∷ []) r (Some kept)) refl h))
+        (ap (receive (asking r.single u) (ask r.single u) held) e ∙ halts_in_doubt r.single u held (sound_now first r 1 grown) room mine)
+        (λ h. absurd (stops_not d r.single.passed (clients_of c (origin ∷ []) r (Some kept)) refl h))
     asks_own Unwritten e room mine =
         by_event (Asked None origin u) r (Some kept) (ask r.single u) [] held answer (unlogged (halts halt.Disk))
-            (ap (receive (asking r.single u) (ask r.single u) held) e ∙ halts_unwritten r.single u held (sound_now first r 1 grown) room mine)
-            (λ h. absurd (stops_not (unlogged (halts halt.Disk)) r.single.passed (clients_of c (origin ∷ []) r (Some kept)) refl h))
+        (ap (receive (asking r.single u) (ask r.single u) held) e ∙ halts_unwritten r.single u held (sound_now first r 1 grown) room mine)
+        (λ h. absurd (stops_not (unlogged (halts halt.Disk)) r.single.passed (clients_of c (origin ∷ []) r (Some kept)) refl h))
 
     asks_room : (b : Bool) → nat_lt r.single.view held ≡ b → r.single.done < last_place → Event
     asks_room true e room = asks_fenced room (grind (arith, e))
@@ -268,7 +265,7 @@ module _ (c : ℕ) (first : AloneRun) (stream : List ℕ) (given : List Item) (y
         record {
           phase = z.phase;
           given = z.given;
-          is = ap (λ (l : List Effect). stand y t (sent l)) says ∙ z.is;
+          is = is_all more (node_alone c z.phase) says z.is;
           fits = z.fits;
           grown = z.grown;
           promised = z.promised;
@@ -277,6 +274,9 @@ module _ (c : ℕ) (first : AloneRun) (stream : List ℕ) (given : List Item) (y
           logged = append-nil (r.records ++ made r.single u ∷ []) ∙ z.logged;
         }
       where
+        is_all : (more : List Effect) (x : NodeAlone) → es ≡ Acks ++ more → stand y t (release r.single ∷ sent more) ≡ x → stand y t (sent es) ≡ x
+        is_all more x says rest = ap (λ (l : List Effect). stand y t (sent l)) says ∙ rest
+
         told_all : (more : List Effect) (output : List ℕ) → es ≡ Acks ++ more → Done.output ++ told_to c more ≡ output → r.output ++ told_to c es ≡ output
         told_all more output says rest =
             let acks : r.output ++ told_to c (Acks ++ more) ≡ Done.output ++ told_to c more = simp (same, append_assoc) in
@@ -286,9 +286,9 @@ module _ (c : ℕ) (first : AloneRun) (stream : List ℕ) (given : List Item) (y
     hears_granted servers =
         let out : Out registry_machine = acknowledges (releasing r.single u) (Some (outcome_of r.single u)) (Acked r.single.view (r.single.done + 1) ∷ Send (release r.single) ∷ []) in
         by_event (Granting origin u) r (Some kept) (grant r.single u) [] held answer (unlogged out) (finishes_one r.single u held answer (sound_now first r 1 grown))
-            (λ h. let m : NodeState registry_machine = h.0 in
-                let a = subst (λ (f : Finish). AnswersHead f out m y t es) (finishes c (r.single.passed + 1) (r.single.done + 1) origin (outcome_of r.single u) r kept own) h.2 in
-                further m a.0 servers (sym (some_is (releasing r.single u) m h.1)) a.1 a.2)
+        (λ h. let m : NodeState registry_machine = h.0 in
+        let a = subst (λ (f : Finish). AnswersHead f out m y t es) (finishes c (r.single.passed + 1) (r.single.done + 1) origin (outcome_of r.single u) r kept own) h.2 in
+        further m a.0 servers (sym (some_is (releasing r.single u) m h.1)) a.1 a.2)
 
   -- ---- any message
 
@@ -299,15 +299,15 @@ module _ (c : ℕ) (first : AloneRun) (stream : List ℕ) (given : List Item) (y
       on_first (λ q rest. Hears (Calm (Some l)) r intake q rest held answer) (release l.before) p [] left e (hears_free l r intake held answer fits grown promised heard)
   hears_on (Asked (Some l) origin u) r intake p left held answer fits grown promised heard e servers =
       on_first (λ q rest. Hears (Asked (Some l) origin u) r intake q rest held answer) (release l.before) p (ask r.single u ∷ []) left e
-          (hears_free_asked l origin u r intake held answer fits grown promised heard)
+      (hears_free_asked l origin u r intake held answer fits grown promised heard)
   hears_on (Asked None origin u) r None p left held answer fits grown promised heard e servers = absurd fits.3
   hears_on (Asked None origin u) r (Some kept) p left held answer fits grown promised heard e servers =
       on_first (λ q rest. Hears (Asked None origin u) r (Some kept) q rest held answer) (ask r.single u) p [] left e
-          (hears_ask origin u r kept held answer fits.1 fits.2 grown promised heard (nat_lt r.single.done last_place) refl)
+      (hears_ask origin u r kept held answer fits.1 fits.2 grown promised heard (nat_lt r.single.done last_place) refl)
   hears_on (Granting origin u) r None p left held answer fits grown promised heard e servers = absurd fits.3
   hears_on (Granting origin u) r (Some kept) p left held answer fits grown promised heard e servers =
       on_first (λ q rest. Hears (Granting origin u) r (Some kept) q rest held answer) (grant r.single u) p [] left e
-          (hears_granted origin u r kept held answer fits.0 fits.1 fits.2 grown promised heard servers)
+      (hears_granted origin u r kept held answer fits.0 fits.1 fits.2 grown promised heard servers)
   hears_on (Stuck head others origins) r intake p left held answer fits grown promised heard e servers = absurd (cc)
 
 pub hears_message : (c : ℕ) (first : AloneRun) (stream : List ℕ) (z : NodeAlone) (output : List ℕ) (records : List Entry) → StandsAt c first stream z output records → MessageLeads c first stream z output records

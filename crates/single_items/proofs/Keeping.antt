@@ -1,5 +1,5 @@
 -- The connection of a node that has no other is found, put back and taken out.
-use Rattle.std.proofs.Common.{◌≡◌, ℕ, Bool, true, List, [], ◌∷◌, Option, Some, cond, nat_eq, nat_lt, false, refl, ap, ◌∙◌, arith}
+use Rattle.std.proofs.Common.{◌≡◌, ℕ, Bool, true, [], ◌∷◌, Some, cond, nat_eq, nat_lt, false, ap, arith}
 use Rattle.std.specs.BTreeMap.{is_at}
 use Rattle.std.specs.Ordering.{nat_cmp}
 use Rattle.rpc_assoc.specs.State.{group_of}

@@ -1,5 +1,5 @@
 -- A piece of the connection's stream leads the node on.
-use Rattle.std.proofs.Common.{◌≡◌, ◌⊎◌, inl, inr, ℕ, ◌≤◌, List, [], ◌∷◌, ◌++◌, Option, Some, None, refl, sym, ap, ◌∙◌, subst}
+use Rattle.std.proofs.Common.{◌≡◌, ◌⊎◌, inl, inr, ℕ, ◌≤◌, List, [], ◌++◌, Option, Some, None, refl, sym, ap, ◌∙◌, subst}
 use Rattle.std.proofs.lemmas.List.{append-nil}
 use Rattle.update_records.specs.Entry.{Entry}
 use Rattle.update_records.specs.declared.update.Update.{Update}
@@ -11,15 +11,15 @@ use Rattle.gum_core.specs.Updating.{last_place}
 use Rattle.single_rules.specs.Single.{Single}
 use Rattle.cluster_rules.specs.declared.effect.CloseCause.{CloseCause}
 use Rattle.cluster_rules.specs.declared.effect.Effect.{Effect}
-use Rattle.cluster_rules.specs.Nodes.{NodeState, Out}
+use Rattle.cluster_rules.specs.Nodes.{NodeState}
 use Rattle.cluster_rules.specs.Worlds.{sent}
 use Rattle.registry_machine.specs.Machine.{registry_machine}
-use Rattle.client_connections.specs.Clients.{Client, Clients, client_at, left_by, waits_at}
-use Rattle.client_connections.specs.Taking.{GoesOn, Hears, HearsBy, Serving, closes, refusal}
+use Rattle.client_connections.specs.Clients.{Client, Clients, client_at}
+use Rattle.client_connections.specs.Taking.{Hears, HearsBy, Serving, closes, refusal}
 use Rattle.single_items.specs.Alone.{AloneRun, alone}
 use Rattle.single_items.specs.Events.{AreServed, IsServedBy, PieceComes, serving_by, submitted_if, told_to}
 use Rattle.single_items.specs.Promises.{IsRefused, PieceLeads}
-use Rattle.single_items.specs.Standing.{Asked, Calm, FitsWay, Granting, GrownFrom, IsHeardOn, IsKeptFrom, Phase, NodeAlone, StandsAt, Stuck, Way, clients_of, left_on, logged_on, node_on, promised_on, queued_on, node_alone, waiting_on}
+use Rattle.single_items.specs.Standing.{Asked, Calm, FitsWay, Granting, GrownFrom, IsHeardOn, IsKeptFrom, Phase, NodeAlone, StandsAt, Stuck, Way, clients_of, left_on, logged_on, node_on, promised_on, queued_on, waiting_on}
 use Rattle.single_items.proofs.Keeping.{found_one, left_one}
 use Rattle.single_items.proofs.Served.{Ready, served, some_is, stand, stand_is}
 use Rattle.single_items.proofs.Serving.{client_of}
@@ -33,35 +33,37 @@ module _ (c : ℕ) (first : AloneRun) (stream piece : List ℕ) (given : List It
   abbrev Taken : AloneRun → List Entry → Type 0
   Taken r records = StandsAt c first (stream ++ piece) (stand y t (sent es)) (r.output ++ told_to c es) records
 
-  abbrev Refused : AloneRun → List Entry → Type 0
-  Refused r records = StandsAt c first stream (stand y t (sent es)) r.output records × IsRefused c es
+  abbrev Refused : Clients → AloneRun → List Entry → Type 0
+  Refused s r records = StandsAt c first stream (stand y t (sent es)) r.output records × IsRefused c piece s es
 
   -- The way is idle: nothing is under way.
   module _ (way : Way) (idle : IsIdle way) (r : AloneRun) (quiet : left_on way r.single ≡ []) (logged : logged_on way r ≡ r.records) (run : r ≡ alone c first given) (grown : GrownFrom first (queued_on way) r) where
     none_sent : es ≡ [] → sent es ≡ left_on way r.single
     none_sent none = ap sent none ∙ sym quiet
 
-    refused : (kept : Kept) (cause : CloseCause) → IsHeardOn way r None stream given → FitsWay c way r None → promised_on way r ≡ alone c first given
+    refused : (kept : Kept) (cause : CloseCause) → refusal kept piece ≡ Some cause → IsHeardOn way r None stream given → FitsWay c way r None → promised_on way r ≡ alone c first given
         → IsServedBy (HearsBy (Some cause) (serving_with r) c piece (client_of kept r) (clients_of c (waiting_on way) r (Some kept))) (node_on way r.single) y t es
-        → Refused r (logged_on way r)
-    refused kept cause heard fits promised h =
+        → Refused (clients_of c (waiting_on way) r (Some kept)) r (logged_on way r)
+    refused kept cause because heard fits promised h =
         let none : h.update ≡ None = h.took.update in
         let node : Some (node_on way r.single) ≡ Some y = sym (ap (λ (u : Option Update). (submitted_if u (node_on way r.single)).node) none) ∙ h.node in
-        let says : es ≡ closes c cause = h.effects ∙ ap (λ (u : Option Update). h.told ++ (submitted_if u (node_on way r.single)).effects) none ∙ append-nil h.told ∙ h.took.effects in
-        (record {
-          phase = record { run = r; way = way; intake = None };
-          given = given;
-          is = stand_is y (node_on way r.single) t (clients_of c (waiting_on way) r None) (sent es) (left_on way r.single)
-              (sym (some_is (node_on way r.single) y node))
-              (h.took.clients ∙ left_one (clients_of c (waiting_on way) r (Some kept)).common c (client_of kept r) (client_of kept r))
-              (ap sent says ∙ sym quiet);
-          fits = fits;
-          grown = grown;
-          promised = promised;
-          heard = heard;
-          told = refl;
-          logged = refl;
-        }, inr (cause, says))
+        let says : es ≡ closes c cause = h.effects ∙ ap (λ (u : Option Update). h.told ++ (submitted_if u (node_on way r.single)).effects) none ∙ append-nil h.told ∙ h.took.effects in (
+          record {
+            phase = record { run = r; way = way; intake = None };
+            given = given;
+            is = stand_is y (node_on way r.single) t (clients_of c (waiting_on way) r None) (sent es) (left_on way r.single)
+                (sym (some_is (node_on way r.single) y node))
+                (h.took.clients ∙ left_one (clients_of c (waiting_on way) r (Some kept)).common c (client_of kept r) (client_of kept r))
+                (ap sent says ∙ sym quiet);
+            fits = fits;
+            grown = grown;
+            promised = promised;
+            heard = heard;
+            told = refl;
+            logged = refl;
+          },
+          inr (client_of kept r, cause, found_one (clients_of c (waiting_on way) r (Some kept)).common c (client_of kept r), because, says),
+        )
 
     taken : (kept : Kept) → AreServed t.conns → Ready c first (stream ++ piece) given way idle r (fed kept piece)
         → IsServedBy (HearsBy None (serving_with r) c piece (client_of kept r) (clients_of c (waiting_on way) r (Some kept))) (node_on way r.single) y t es
@@ -69,45 +71,47 @@ module _ (c : ℕ) (first : AloneRun) (stream piece : List ℕ) (given : List It
     taken kept servers ready h =
         let z = served c first (stream ++ piece) given way idle r (fed kept piece) kept ready y t es servers (record { told = h.told; update = h.update; took = h.took; node = h.node; effects = h.effects }) in
         subst (λ (records : List Entry). Taken r records) (sym logged)
-            (subst (λ (l : List Sent). StandsAt c first (stream ++ piece) (stand y t (l ++ sent es)) (r.output ++ told_to c es) r.records) quiet z)
+        (subst (λ (l : List Sent). StandsAt c first (stream ++ piece) (stand y t (l ++ sent es)) (r.output ++ told_to c es) r.records) quiet z)
 
-    by_cause : (kept : Kept) (cause : Option CloseCause) → AreServed t.conns → IsHeardOn way r None stream given → FitsWay c way r None → promised_on way r ≡ alone c first given → Ready c first (stream ++ piece) given way idle r (fed kept piece)
+    by_cause : (kept : Kept) (cause : Option CloseCause) → refusal kept piece ≡ cause → AreServed t.conns → IsHeardOn way r None stream given → FitsWay c way r None → promised_on way r ≡ alone c first given → Ready c first (stream ++ piece) given way idle r (fed kept piece)
         → IsServedBy (HearsBy cause (serving_with r) c piece (client_of kept r) (clients_of c (waiting_on way) r (Some kept))) (node_on way r.single) y t es
-        → Taken r (logged_on way r) ⊎ Refused r (logged_on way r)
-    by_cause kept None servers heard fits promised ready h = inl (taken kept servers ready h)
-    by_cause kept (Some cause) servers heard fits promised ready h = inr (refused kept cause heard fits promised h)
+        → Taken r (logged_on way r) ⊎ Refused (clients_of c (waiting_on way) r (Some kept)) r (logged_on way r)
+    by_cause kept None because servers heard fits promised ready h = inl (taken kept servers ready h)
+    by_cause kept (Some cause) because servers heard fits promised ready h = inr (refused kept cause because heard fits promised h)
 
     open_still : (kept : Kept) → AreServed t.conns → IsHeardOn way r None stream given → FitsWay c way r None → promised_on way r ≡ alone c first given → Ready c first (stream ++ piece) given way idle r (fed kept piece)
         → PieceComes c piece (node_on way r.single) (clients_of c (waiting_on way) r (Some kept)) y t es → serving_by (node_on way r.single) ≡ serving_with r
-        → Taken r (logged_on way r) ⊎ Refused r (logged_on way r)
+        → Taken r (logged_on way r) ⊎ Refused (clients_of c (waiting_on way) r (Some kept)) r (logged_on way r)
     open_still kept servers heard fits promised ready h serves =
         let s : Clients = clients_of c (waiting_on way) r (Some kept) in
-        by_cause kept (refusal kept piece) servers heard fits promised ready
-            (subst (λ (client : Option Client). IsServedBy (Hears (serving_with r) c piece client s) (node_on way r.single) y t es) (found_one s.common c (client_of kept r))
-            (subst (λ (v : Serving). IsServedBy (Hears v c piece (client_at c s) s) (node_on way r.single) y t es) serves h))
+        by_cause kept (refusal kept piece) refl servers heard fits promised ready
+        (subst (λ (client : Option Client). IsServedBy (Hears (serving_with r) c piece client s) (node_on way r.single) y t es) (found_one s.common c (client_of kept r))
+        (subst (λ (v : Serving). IsServedBy (Hears v c piece (client_at c s) s) (node_on way r.single) y t es) serves h))
 
     closed_already : IsHeardOn way r None stream given → FitsWay c way r None → promised_on way r ≡ alone c first given
-        → PieceComes c piece (node_on way r.single) (clients_of c (waiting_on way) r None) y t es → Refused r (logged_on way r)
+        → PieceComes c piece (node_on way r.single) (clients_of c (waiting_on way) r None) y t es → Refused (clients_of c (waiting_on way) r None) r (logged_on way r)
     closed_already heard fits promised h =
         let none : h.update ≡ None = h.took.update in
         let node : Some (node_on way r.single) ≡ Some y = sym (ap (λ (u : Option Update). (submitted_if u (node_on way r.single)).node) none) ∙ h.node in
-        let says : es ≡ [] = h.effects ∙ ap (λ (u : Option Update). h.told ++ (submitted_if u (node_on way r.single)).effects) none ∙ append-nil h.told ∙ h.took.effects in
-        (record {
-          phase = record { run = r; way = way; intake = None };
-          given = given;
-          is = stand_is y (node_on way r.single) t (clients_of c (waiting_on way) r None) (sent es) (left_on way r.single)
-              (sym (some_is (node_on way r.single) y node)) h.took.clients (none_sent says);
-          fits = fits;
-          grown = grown;
-          promised = promised;
-          heard = heard;
-          told = refl;
-          logged = refl;
-        }, inl says)
+        let says : es ≡ [] = h.effects ∙ ap (λ (u : Option Update). h.told ++ (submitted_if u (node_on way r.single)).effects) none ∙ append-nil h.told ∙ h.took.effects in (
+          record {
+            phase = record { run = r; way = way; intake = None };
+            given = given;
+            is = stand_is y (node_on way r.single) t (clients_of c (waiting_on way) r None) (sent es) (left_on way r.single)
+                (sym (some_is (node_on way r.single) y node)) h.took.clients (none_sent says);
+            fits = fits;
+            grown = grown;
+            promised = promised;
+            heard = heard;
+            told = refl;
+            logged = refl;
+          },
+          inl (refl, says),
+        )
 
   hears_on : (way : Way) (r : AloneRun) (intake : Option Kept) → FitsWay c way r intake → GrownFrom first (queued_on way) r → promised_on way r ≡ alone c first given → IsHeardOn way r intake stream given
       → left_on way r.single ≡ [] → AreServed t.conns → PieceComes c piece (node_on way r.single) (clients_of c (waiting_on way) r intake) y t es
-      → Taken r (logged_on way r) ⊎ Refused r (logged_on way r)
+      → Taken r (logged_on way r) ⊎ Refused (clients_of c (waiting_on way) r intake) r (logged_on way r)
   hears_on (Calm (Some l)) r intake fits grown promised heard quiet servers h = absurd (cc)
   hears_on (Asked None origin u) r intake fits grown promised heard quiet servers h = absurd (cc)
   hears_on (Asked (Some l) origin u) r intake fits grown promised heard quiet servers h = absurd (cc)
@@ -136,6 +140,8 @@ hears_piece c first stream z output records h piece y t es quiet heard servers =
     let p : Phase = h.phase in
     let here = subst (λ (x : NodeAlone). PieceComes c piece x.node x.clients y t es) h.is heard in
     let left : left_on p.way p.run.single ≡ [] = sym (ap (λ (x : NodeAlone). x.left) h.is) ∙ quiet in
-    let r = hears_on c first stream piece h.given y t es p.way p.run p.intake h.fits h.grown h.promised h.heard left servers here in
-    subst (λ (l : List ℕ). StandsAt c first (stream ++ piece) (stand y t (sent es)) (l ++ told_to c es) records ⊎ (StandsAt c first stream (stand y t (sent es)) l records × IsRefused c es)) (sym h.told)
-    (subst (λ (l : List Entry). StandsAt c first (stream ++ piece) (stand y t (sent es)) (p.run.output ++ told_to c es) l ⊎ (StandsAt c first stream (stand y t (sent es)) p.run.output l × IsRefused c es)) (sym h.logged) r)
+    let found = hears_on c first stream piece h.given y t es p.way p.run p.intake h.fits h.grown h.promised h.heard left servers here in
+    let r = subst (λ (x : NodeAlone). StandsAt c first (stream ++ piece) (stand y t (sent es)) (p.run.output ++ told_to c es) (logged_on p.way p.run)
+    ⊎ (StandsAt c first stream (stand y t (sent es)) p.run.output (logged_on p.way p.run) × IsRefused c piece x.clients es)) (sym h.is) found in
+    subst (λ (l : List ℕ). StandsAt c first (stream ++ piece) (stand y t (sent es)) (l ++ told_to c es) records ⊎ (StandsAt c first stream (stand y t (sent es)) l records × IsRefused c piece z.clients es)) (sym h.told)
+    (subst (λ (l : List Entry). StandsAt c first (stream ++ piece) (stand y t (sent es)) (p.run.output ++ told_to c es) l ⊎ (StandsAt c first stream (stand y t (sent es)) p.run.output l × IsRefused c piece z.clients es)) (sym h.logged) r)

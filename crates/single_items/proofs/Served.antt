@@ -1,9 +1,8 @@
 -- What a connection took leaves the node where Alone says.
-use Rattle.std.proofs.Common.{◌≡◌, ◌⊎◌, inl, inr, ℕ, ◌+◌, ◌≤◌, ◌<◌, Bool, true, false, List, [], ◌∷◌, ◌++◌, Option, Some, None, nat_lt, if◌then◌else◌, refl, sym, ap, ◌∙◌, subst, append_assoc, arith}
+use Rattle.std.proofs.Common.{◌≡◌, inl, inr, ℕ, ◌+◌, ◌≤◌, ◌<◌, true, List, [], ◌∷◌, ◌++◌, Option, Some, None, refl, sym, ap, ◌∙◌, arith}
 use Rattle.std.proofs.lemmas.List.{append-nil, length-append}
 use Rattle.std.proofs.lemmas.List.Sums.{fold-append}
 use Rattle.std.specs.List.{list_any}
-use Rattle.update_records.specs.Entry.{Entry}
 use Rattle.update_records.specs.declared.update.Update.{Update}
 use Rattle.rpc_calls.specs.declared.intake_fault.IntakeFault.{IntakeFault}
 use Rattle.rpc_calls.specs.declared.item.Item.{Item}
@@ -24,8 +23,8 @@ use Rattle.single_rules.proofs.Comparisons.{not_less}
 use Rattle.single_rules.specs.Single.{Single}
 use Rattle.single_items.specs.Alone.{AloneRun, alone, item_alone, update_alone}
 use Rattle.single_items.specs.Events.{AreServed, IsServedBy, submitted_if, told_to}
-use Rattle.single_items.specs.Standing.{Asked, Calm, FitsWay, GrownFrom, IsAllTaken, IsBehind, IsCallOf, IsHeardOn, IsKeptFrom, Granting, Phase, NodeAlone, StandsAt, Stuck, Way, clients_of, left_on, logged_on, node_on, promised_on, queued_on, node_alone, waiting_on}
-use Rattle.single_items.proofs.Serving.{Carries, Went, WentAway, WentCalmly, WentQueueing, client_of, goes_alone}
+use Rattle.single_items.specs.Standing.{Asked, Calm, FitsWay, GrownFrom, IsAllTaken, IsCallOf, IsHeardOn, IsKeptFrom, Granting, NodeAlone, StandsAt, Stuck, Way, clients_of, left_on, logged_on, node_on, promised_on, queued_on, waiting_on}
+use Rattle.single_items.proofs.Serving.{Went, WentAway, WentCalmly, WentQueueing, client_of, goes_alone}
 use Rattle.single_items.proofs.Submitting.{IsIdle, asks_on, pushed, submits_on}
 use Rattle.single_items.proofs.Taking.{Reached, any_last, serving_with, waits_for_it}
 use Rattle.single_items.proofs.Telling.{sent_both, told_both}
@@ -250,8 +249,8 @@ module _ (c : ℕ) (first : AloneRun) (stream : List ℕ) (given : List Item) (w
               (sym (some_is (node_on Beyond r.single) y here) ∙ ap (node_on Beyond) (sym same))
               (g.clients ∙ clients_on c way g.origin u g.run g.intake idle)
               (ap (λ (l : List Effect). left_on way r.single ++ sent l) says
-                  ∙ ap (λ (l : List Sent). left_on way r.single ++ l) (sent_both told (asks_on way r.single u) ∙ ap (λ (l : List Sent). l ++ sent (asks_on way r.single u)) g.took.silent)
-                  ∙ sent_on way r.single g.origin u idle ∙ ap (left_on Beyond) (sym same));
+              ∙ ap (λ (l : List Sent). left_on way r.single ++ l) (sent_both told (asks_on way r.single u) ∙ ap (λ (l : List Sent). l ++ sent (asks_on way r.single u)) g.took.silent)
+              ∙ sent_on way r.single g.origin u idle ∙ ap (left_on Beyond) (sym same));
           fits = fits_push c way g.run g.origin u g.intake idle (ready.behind None g.run g.took.single g.took.waits) waits g.own;
           grown = grown_next;
           promised = promised_push c way g.run g.origin u idle (ready.behind None g.run g.took.single g.took.waits)
@@ -283,4 +282,4 @@ pub served : (c : ℕ) (first : AloneRun) (stream : List ℕ) (given : List Item
     → StandsAt c first stream (stand y t (left_on way r.single ++ sent es)) (r.output ++ told_to c es) r.records
 served c first stream given way idle r before kept ready y t es servers h =
     goes c first stream given way idle r before ready y t es h.told h.update
-        (goes_alone c (waiting_on way) r before kept t h.told h.update servers ready.waits ready.grown.items h.took) h.node h.effects
+    (goes_alone c (waiting_on way) r before kept t h.told h.update servers ready.waits ready.grown.items h.took) h.node h.effects

@@ -1,5 +1,5 @@
 -- What a connection takes in one event, and what follows of it.
-use Rattle.std.proofs.Common.{◌≡◌, ◌⊎◌, inl, inr, ℕ, ◌+◌, ◌≤◌, ◌<◌, Bool, true, false, not, ◌&&◌, List, [], ◌∷◌, ◌++◌, Option, Some, None, nat_lt, refl, sym, ap, ◌∙◌, subst, arith}
+use Rattle.std.proofs.Common.{◌≡◌, ◌⊎◌, inl, inr, ℕ, ◌≤◌, ◌<◌, Bool, true, false, not, ◌&&◌, List, [], ◌∷◌, ◌++◌, Option, Some, None, nat_lt, refl, sym, ap, ◌∙◌, subst}
 use Rattle.std.proofs.lemmas.List.{append-nil}
 use Rattle.std.specs.List.{list_any}
 use Rattle.update_records.specs.declared.update.Update.{Update}
@@ -16,7 +16,7 @@ use Rattle.client_connections.specs.declared.took.Ending.{Ending}
 use Rattle.client_connections.specs.declared.took.Ending.TheVariants.{Fails, Rests, Waits}
 use Rattle.client_connections.specs.Clients.{Client, Clients, left_by, may_take, waits_at}
 use Rattle.client_connections.specs.Items.{most_taken}
-use Rattle.client_connections.specs.Taking.{Course, Ends, GoesOn, cause_of, client_after, course_from, effects_of, goes_on, is_rest, takes_all}
+use Rattle.client_connections.specs.Taking.{Course, Ends, GoesOn, cause_of, effects_of, goes_on, is_rest}
 use Rattle.single_items.specs.Alone.{AloneRun, alone, takes_alone, update_alone}
 use Rattle.single_items.specs.Events.{AreServed, told_to}
 use Rattle.single_items.specs.Standing.{IsAllTaken, IsCallOf, IsKeptFrom, clients_of}
@@ -174,4 +174,4 @@ module _ (c : ℕ) (old : List Origin) (r : AloneRun) (before kept : Kept) (t : 
   goes_alone served waits few g =
       let took = all_taken c old g.takes.items r.output r [] waits (sym (append-nil r.output)) refl few g.takes.may in
       by_ending g.takes.items g.intake g.course g.ending served waits g.takes.rests g.takes.stands g.clients g.effects g.update
-          (subst (λ (p : Course). TookAll c old r.output r g.takes.items p ⊎ TookUpdate c old r.output r g.takes.items p) (sym g.takes.course) took)
+      (subst (λ (p : Course). TookAll c old r.output r g.takes.items p ⊎ TookUpdate c old r.output r g.takes.items p) (sym g.takes.course) took)

@@ -1,9 +1,8 @@
 -- An update is submitted at a node that is alone.
-use Rattle.std.proofs.Common.{◌≡◌, ℕ, ◌+◌, ◌<◌, true, false, List, [], ◌∷◌, ◌++◌, length, Option, None, nat_eq, arith}
+use Rattle.std.proofs.Common.{◌≡◌, ◌+◌, ◌<◌, false, List, [], ◌∷◌, ◌++◌, length, Option, None, nat_eq, arith}
 use Rattle.update_records.specs.declared.update.Update.{Update}
 use Rattle.gum_core.specs.declared.lock.Lock.{Lock}
 use Rattle.gum_core.specs.Updating.{last_request}
-use Rattle.cluster_rules.specs.Machines.{Machine}
 use Rattle.cluster_rules.specs.declared.effect.Effect.{Effect}
 use Rattle.cluster_rules.specs.declared.effect.Effect.TheVariants.{Send}
 use Rattle.cluster_rules.specs.Nodes.{becomes}
@@ -11,7 +10,7 @@ use Rattle.cluster_rules.specs.Updates.{submit}
 use Rattle.registry_machine.specs.Machine.{registry_machine}
 use Rattle.client_connections.specs.declared.origin.Origin.{Origin}
 use Rattle.single_rules.specs.Single.{Single, ask, with_queue}
-use Rattle.single_rules.proofs.Comparisons.{less, same}
+use Rattle.single_rules.proofs.Comparisons.{less}
 use Rattle.single_items.specs.Standing.{Asked, Calm, Granting, Stuck, Way, node_on, queued_on}
 
 -- With an empty queue it is asked for, whether or not the lock is free.

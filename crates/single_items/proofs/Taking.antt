@@ -1,7 +1,6 @@
 -- The items that a connection takes in one event come to what Alone says of them.
-use Rattle.std.proofs.Common.{◌≡◌, ◌⊎◌, inl, inr, ℕ, ◌+◌, ◌≤◌, ◌<◌, Bool, true, false, not, ◌&&◌, ◌||◌, List, [], ◌∷◌, ◌++◌, Option, Some, None, nat_eq, nat_lt, if◌then◌else◌, refl, sym, ap, ◌∙◌, subst, append_assoc, arith}
+use Rattle.std.proofs.Common.{◌≡◌, ◌⊎◌, inl, inr, ℕ, ◌+◌, ◌≤◌, ◌<◌, Bool, true, false, not, ◌&&◌, ◌||◌, List, [], ◌∷◌, ◌++◌, Option, Some, None, nat_lt, if◌then◌else◌, refl, sym, ap, ◌∙◌, subst, append_assoc, arith}
 use Rattle.std.specs.List.{list_any}
-use Rattle.update_records.specs.Entry.{Entry}
 use Rattle.update_records.specs.declared.update.Update.{Update}
 use Rattle.registry_defs.specs.Keys.{Keys}
 use Rattle.rpc_calls.specs.declared.call.Call as calls
@@ -13,17 +12,15 @@ use Rattle.context_handles.specs.Table.{Table}
 use Rattle.cluster_rules.specs.declared.effect.Effect.{Effect}
 use Rattle.cluster_rules.specs.declared.effect.Effect.TheVariants as effect
 use Rattle.cluster_rules.specs.Worlds.{sent}
-use Rattle.registry_machine.specs.Machine.{registry_machine}
 use Rattle.client_connections.specs.declared.origin.Origin.{Origin}
 use Rattle.client_connections.specs.declared.origin.Origin.TheVariants.{Call, Batch}
 use Rattle.client_connections.specs.declared.took.CallEnd.{CallEnd}
 use Rattle.client_connections.specs.declared.took.CallEnd.TheVariants.{Results, Fault, Sends}
 use Rattle.client_connections.specs.declared.took.Took.{Took}
 use Rattle.client_connections.specs.declared.took.Took.TheVariants.{Nothing, Reply, Queues}
-use Rattle.client_connections.specs.Clients.{Common, has_waiting, may_take, waits_at}
-use Rattle.client_connections.specs.Items.{ClientState, answered, call_answered, called, ended, item_of, most_taken, replied, state, taken}
-use Rattle.client_connections.specs.Taking.{Course, MayAll, Serving, point_if, serving, takes_all, takes_one, took_by}
-use Rattle.single_rules.specs.Single.{Single}
+use Rattle.client_connections.specs.Clients.{has_waiting, may_take, waits_at}
+use Rattle.client_connections.specs.Items.{ClientState, answered, call_answered, called, item_of, most_taken, replied, taken}
+use Rattle.client_connections.specs.Taking.{Course, MayAll, Serving, point_if, serving, takes_all, took_by}
 use Rattle.single_items.specs.Alone.{AloneRun, alone, counted_alone, item_alone, replies_alone, takes_alone, took_alone, update_alone}
 use Rattle.single_items.specs.Events.{told_to}
 use Rattle.single_items.specs.Standing.{IsCallOf}
@@ -173,24 +170,24 @@ module _ (c : ℕ) (old : List Origin) where
       let q : Course = takes_all (serving_with r) c (took_by (serving_with r) c (course_at old r es) (Reply bytes reads, n)) items in
       let told : List Effect = es ++ effect.Reply c (point_if r.single.done reads) bytes ∷ [] in
       let sends : r.output ++ bytes ≡ before ++ told_to c told =
-          ap (λ (l : List ℕ). l ++ bytes) output ∙ append_assoc before (told_to c es) bytes ∙ ap (λ (l : List ℕ). before ++ l) (sym (told_reply c es (point_if r.single.done reads) bytes)) in
+      ap (λ (l : List ℕ). l ++ bytes) output ∙ append_assoc before (told_to c es) bytes ∙ ap (λ (l : List ℕ). before ++ l) (sym (told_reply c es (point_if r.single.done reads) bytes)) in
       on_from before r s i items q is refl refl refl (omega arith) (all before s told waits sends (silent_reply c es (point_if r.single.done reads) bytes silent) (omega arith) may)
   one before r es i items (Queues origin u, n) all m is waits output silent room may =
       let w : AloneRun = counted_alone n r in
       let p : Course = took_by (serving_with r) c (course_at old r es) (Queues origin u, n) in
       let none : items ≡ [] = none_behind (serving_with r) c p items (shuts c (r.taken + 1) n.handles old origin m) may in
       subst (λ (l : List Item). Taken c old before r (i ∷ l) (takes_all (serving_with r) c p l)) (sym none)
-          (inr (record {
-            run = w;
-            origin = origin;
-            update = u;
-            own = m;
-            course = refl;
-            reached = record { output = output; silent = silent; records = refl; single = refl; waits = refl };
-            promised = is;
-            further = omega arith;
-            few = omega arith;
-          }))
+      (inr (record {
+        run = w;
+        origin = origin;
+        update = u;
+        own = m;
+        course = refl;
+        reached = record { output = output; silent = silent; records = refl; single = refl; waits = refl };
+        promised = is;
+        further = omega arith;
+        few = omega arith;
+      }))
 
   pub all_taken : (items : List Item) → All items
   unfolding MayAll

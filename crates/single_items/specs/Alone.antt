@@ -1,5 +1,5 @@
 -- What the items of a client come to at a node that is alone: what it would queue, it does at once.
-use Rattle.std.specs.Prelude.{ℕ, ◌+◌, Bool, true, false, not, ◌&&◌, List, [], ◌∷◌, ◌++◌, length, Option, Some, None, nat_lt, if◌then◌else◌}
+use Rattle.std.specs.Prelude.{ℕ, ◌+◌, Bool, true, false, not, ◌&&◌, List, [], ◌∷◌, ◌++◌, length, Option, Some, nat_lt, if◌then◌else◌}
 use Rattle.std.specs.List.{fold}
 use Rattle.ndr_values.specs.declared.handle.WireHandle.{WireHandle}
 use Rattle.update_records.specs.Entry.{Entry}

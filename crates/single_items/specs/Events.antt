@@ -2,7 +2,6 @@
 -- whose update was acknowledged is answered and takes further items; an update that these queue is submitted.
 use Rattle.std.specs.Prelude.{◌≡◌, ℕ, ◌+◌, List, [], ◌∷◌, ◌++◌, Option, Some, None, option_map, nat_eq, if◌then◌else◌}
 use Rattle.std.specs.Option.{option_to_list}
-use Rattle.update_records.specs.Entry.{Entry}
 use Rattle.update_records.specs.declared.update.Update.{Update}
 use Rattle.registry_defs.specs.Keys.{Keys}
 use Rattle.gum_messages.specs.Messages.{Sent}

@@ -15,9 +15,9 @@ use Rattle.cluster_rules.specs.Receiving.{receive}
 use Rattle.cluster_rules.specs.Updates.{Answer}
 use Rattle.cluster_rules.specs.Worlds.{sent}
 use Rattle.registry_machine.specs.Machine.{registry_machine}
-use Rattle.client_connections.specs.Clients.{Clients, client_at, has_waiting, hung_up, no_clients, with_new}
+use Rattle.client_connections.specs.Clients.{Client, Clients, client_at, has_waiting, hung_up, no_clients, with_new}
 use Rattle.client_connections.specs.Items.{most_taken}
-use Rattle.client_connections.specs.Taking.{closes}
+use Rattle.client_connections.specs.Taking.{closes, refusal}
 use Rattle.context_handles.specs.Table.{Table}
 use Rattle.context_handles.specs.Table as handles
 use Rattle.gum_core.specs.Updating.{last_place}
@@ -38,9 +38,11 @@ MessageLeads c first stream z output records =
     → z.left ≡ p ∷ left → MessageComes p held answer z.node z.clients y t es → AreServed t.conns
     → StandsAt c first stream (behind y t left es) (output ++ told_to c es) (records ++ option_to_list (receive z.node p held answer).appended)
 
--- The piece was refused, as the connection has closed or it was too much, and is no part of the stream.
-abbrev pub IsRefused : ℕ → List Effect → Type 0
-IsRefused c es = (es ≡ []) ⊎ ((cause : CloseCause) × (es ≡ closes c cause))
+-- The piece is no part of the stream: the connection was closed before, or it is now, since the piece was too much.
+abbrev pub IsRefused : ℕ → List ℕ → Clients → List Effect → Type 0
+IsRefused c piece s es =
+    ((client_at c s ≡ None) × (es ≡ []))
+    ⊎ ((k : Client) × (cause : CloseCause) × (client_at c s ≡ Some k) × (refusal k.intake piece ≡ Some cause) × (es ≡ closes c cause))
 
 -- None of its messages is under way, and a piece of the connection's stream comes.
 abbrev pub PieceLeads : ℕ → AloneRun → List ℕ → NodeAlone → List ℕ → List Entry → Type 0
@@ -48,7 +50,7 @@ PieceLeads c first stream z output records =
     (piece : List ℕ) (y : NodeState registry_machine) (t : Clients) (es : List Effect)
     → z.left ≡ [] → PieceComes c piece z.node z.clients y t es → AreServed t.conns
     → StandsAt c first (stream ++ piece) (behind y t [] es) (output ++ told_to c es) records
-    ⊎ (StandsAt c first stream (behind y t [] es) output records × IsRefused c es)
+    ⊎ (StandsAt c first stream (behind y t [] es) output records × IsRefused c piece z.clients es)
 
 -- ---- connections
 

@@ -15,10 +15,10 @@ use Rattle.cluster_rules.specs.Nodes.{NodeState}
 use Rattle.registry_machine.specs.Machine.{registry_machine}
 use Rattle.client_connections.specs.declared.origin.Origin.{Origin}
 use Rattle.client_connections.specs.declared.origin.Origin.TheVariants.{Call, Batch}
-use Rattle.client_connections.specs.Clients.{Client, Clients, waits_at}
+use Rattle.client_connections.specs.Clients.{Clients, waits_at}
 use Rattle.client_connections.specs.Items.{most_taken}
 use Rattle.single_rules.specs.Rounds.{after_all, all_made}
-use Rattle.single_rules.specs.Single.{IsSound, Single, ask, grant, granting, lock_of, made, outcome_of, release, updated, with_queue}
+use Rattle.single_rules.specs.Single.{IsSound, Single, ask, grant, granting, lock_of, made, release, updated, with_queue}
 use Rattle.single_items.specs.Alone.{AloneRun, alone, handles_behind, takes_alone, update_alone}
 
 -- The node, its connections, and the messages that it has sent to itself and not heard yet, the oldest first.
