@@ -1,0 +1,14 @@
+pub mod Agreeing
+pub mod Owning
+pub mod Hearings
+pub mod Followed
+pub mod Stages
+pub mod Opened
+pub mod Decoded
+pub mod Ways
+pub mod Installations
+pub mod Keeping
+pub mod Entering
+pub mod Recoveries
+pub mod Sendings
+pub mod Rules
