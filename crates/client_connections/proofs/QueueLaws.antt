@@ -201,10 +201,10 @@ unfolding Behind
 goes_queue_one v c k s t told queued goes =
     let begin = course_from s.common k in
     let all : Queued v begin goes.course =
-        subst (λ (q : Course). Queued v begin q) (sym goes.takes.course) (items_queue v c goes.takes.items begin goes.takes.may refl) in
+    subst (λ (q : Course). Queued v begin q) (sym goes.takes.course) (items_queue v c goes.takes.items begin goes.takes.may refl) in
     let kept = goes_on_keeps c k goes.course goes.ending s goes.intake in
     goes_queue v c s t begin goes.course goes.ending k told queued all refl
-        (ap (λ (u : Clients). u.common.waiting) goes.clients ∙ kept.0) (ap (λ (u : Clients). u.common.taken) goes.clients ∙ kept.1) goes.update
+    (ap (λ (u : Clients). u.common.waiting) goes.clients ∙ kept.0) (ap (λ (u : Clients). u.common.taken) goes.clients ∙ kept.1) goes.update
 
 tells_queue_none : (v : Serving) (s m t : Clients) (wanted told : List Effect) (queued : Option Update) → Tells m t wanted told queued
     → m.common.waiting ≡ s.common.waiting → m.common.taken ≡ s.common.taken → QueuesOne v s.common t.common queued

@@ -14,6 +14,6 @@ mod told;
 pub use effects::Effects;
 pub use lack::Lack;
 pub use pulled::Pulled;
-pub use replica::{apply_record, Replica};
+pub use replica::{Replica, apply_record};
 pub use stop::Stop;
 pub use told::Told;
