@@ -102,21 +102,6 @@ pub record Writes (v : DiskView) (x : MemberState) (e : Entry) (r : Result Told 
   pub memory : added ≡ Err add.Memory → r ≡ Err stop.Memory
   pub kept : OnOk r (y.log ≡ log_after added)
 
--- What logging a record leaves, by what the log answered.
-abbrev pub LogsOne : MemberState → Entry → Result LogValue AddFault → Result MemberState Stop → Type 0
-LogsOne x e (Ok log) (Ok y) = (y.rules ≡ has_logged x.rules e) × (y.log ≡ Some log)
-LogsOne x e (Ok log) (Err fault) = fault ≡ stop.Memory
-LogsOne x e (Err fault) (Ok y) = ⊥
-LogsOne x e (Err fault) (Err halted) = halted ≡ stop_of fault
-
-pub record LogsEntry (v : DiskView) (x : MemberState) (e : Entry) (r : Result MemberState Stop) (w : DiskView) : Type 0 where
-  pub old : LogValue
-  pub added : Result LogValue AddFault
-  pub had : x.log ≡ Some old
-  pub claim : old.claim ≡ number_of x.rules
-  pub adds : Adds (is_due old (length (record_text e))) old (state_bytes x) (last_bytes x) (record_text e) v added w
-  pub leaves : LogsOne x e added r
-
 -- The head, which has left the queue, is acknowledged, and its lock released.
 abbrev pub finishes : NodeState registry_machine → ℕ → ℕ → Option ℕ → Out registry_machine
 finishes x req place next =
@@ -132,34 +117,6 @@ proceeds_by y e d = elim d [
 ]
 
 -- ---- a checkpoint
-
--- What comes of a checkpoint that an open locker writes, at a disk that holds this token.
-abbrev pub checkpoint_comes : NodeState registry_machine → ℕ → Bool → Out registry_machine
-checkpoint_comes x held good = if nat_lt (number_of x) held then halts (halt.Fenced held) else (if good then nothing x else halts halt.Disk)
-
-pub record Saves (v : DiskView) (x : MemberState) (r : Result Told Stop) (y : MemberState) (w : DiskView) : Type 0 where
-  pub old : LogValue
-  pub written : Result LogValue AddFault
-  pub had : x.log ≡ Some old
-  pub checkpoints : CheckpointsTo old (state_bytes x) (last_bytes x) v written w
-  pub comes : Comes (checkpoint_comes x.rules v.current.held (is_written written)) r y.rules
-  pub memory : written ≡ Err add.Memory → r ≡ Err stop.Memory
-  pub kept : OnOk r (y.log ≡ log_after written)
-
--- What a checkpoint leaves, by what the log answered.
-abbrev pub SavesOne : MemberState → Result LogValue AddFault → Result MemberState Stop → Type 0
-SavesOne x (Ok log) (Ok y) = (y.rules ≡ x.rules) × (y.log ≡ Some log)
-SavesOne x (Ok log) (Err fault) = ⊥
-SavesOne x (Err fault) (Ok y) = ⊥
-SavesOne x (Err fault) (Err halted) = halted ≡ stop_of fault
-
-pub record SavesState (v : DiskView) (x : MemberState) (r : Result MemberState Stop) (w : DiskView) : Type 0 where
-  pub old : LogValue
-  pub written : Result LogValue AddFault
-  pub had : x.log ≡ Some old
-  pub claim : old.claim ≡ number_of x.rules
-  pub saves : CheckpointsTo old (state_bytes x) (last_bytes x) v written w
-  pub leaves : SavesOne x written r
 
 pub record WritesCheckpoint (v : DiskView) (x : MemberState) (r : Result Told Stop) (y : MemberState) (w : DiskView) : Type 0 where
   pub written : Option (Result LogValue AddFault)

@@ -81,23 +81,3 @@ abbrev pub LogsState : Bool → MemberState → DiskView → Option (Result LogV
 LogsState false x v None w = w ≡ v
 LogsState true x v (Some written) w = (old : LogValue) × (x.log ≡ Some old) × CheckpointsTo old (state_bytes x) (last_bytes x) v written w
 LogsState is_to x v written w = ⊥
-
--- ---- the same of a log that is handed in
-
--- A record was added to a log behind this registry and last record.
-pub record AddsTo (log : Option LogValue) (replica : Option (Replica registry_machine)) (last : Option Entry) (e : Entry) (v : DiskView) (r : Result LogValue AddFault) (w : DiskView) : Type 0 where
-  pub old : LogValue
-  pub had : log ≡ Some old
-  pub adds : Adds (is_due old (length (record_text e))) old (replica_bytes replica) (last_text last) (record_text e) v r w
-  pub claim : IfOk r (λ new. new.claim ≡ old.claim)
-  pub cap : IfOk r (λ new. new.cap ≡ old.cap)
-  pub count : IfOk r (λ new. new.base + new.records ≡ old.base + old.records + 1)
-
--- A checkpoint of this registry and last record was written into a log.
-pub record SavesTo (log : Option LogValue) (replica : Option (Replica registry_machine)) (last : Option Entry) (v : DiskView) (r : Result LogValue AddFault) (w : DiskView) : Type 0 where
-  pub old : LogValue
-  pub had : log ≡ Some old
-  pub saves : CheckpointsTo old (replica_bytes replica) (last_text last) v r w
-  pub claim : IfOk r (λ new. new.claim ≡ old.claim)
-  pub cap : IfOk r (λ new. new.cap ≡ old.cap)
-  pub count : IfOk r (λ new. new.base + new.records ≡ old.base + old.records)
