@@ -1,0 +1,16 @@
+pub mod Agreeing
+pub mod Deciding
+pub mod Decoded
+pub mod Entered
+pub mod Enters
+pub mod Followed
+pub mod Follows
+pub mod Hands
+pub mod Opened
+pub mod Openings
+pub mod Proceeding
+pub mod Recoveries
+pub mod Sendings
+pub mod Stages
+pub mod Ticks
+pub mod Ways

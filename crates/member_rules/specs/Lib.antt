@@ -1,0 +1,6 @@
+pub mod States
+pub mod Steps
+pub mod Opening
+pub mod Pulling
+pub mod Recovery
+pub mod Ticking
