@@ -1,33 +1,59 @@
--- What a member keeps stands behind a record that it applies.
-use Rattle.std.proofs.Common.{◌≡◌, ◌↔◌, ℕ, ◌+◌, Bool, true, false, ◌&&◌, IsSome, Option, Some, None, refl, sym, ap, subst, ◌∙◌, arith}
+-- A locker that is ready has the log of its view, behind each event.
+use Rattle.std.proofs.Common.{◌≡◌, ◌↔◌, ℕ, ◌+◌, Bool, true, false, IsTrue, IsSome, Option, Some, None, refl, sym, ap, subst, ◌∙◌, arith}
 use Rattle.update_records.specs.Entry.{Entry}
+use Rattle.gum_messages.specs.declared.view.View.{View}
 use Rattle.quorum_log.specs.Logs.{LogValue}
 use Rattle.view_reconcile.specs.Joining.{ReconcileState, is_ready, locks}
-use Rattle.cluster_rules.specs.declared.offering.Offering.{Offering}
-use Rattle.cluster_rules.specs.Nodes.{Replica}
+use Rattle.cluster_rules.specs.Nodes.{NodeState, Replica, fresh, number_of}
 use Rattle.cluster_rules.specs.Updates.{replica_after}
 use Rattle.registry_machine.specs.Machine.{ReplicatedRegistry, record_applied, registry_machine}
-use Rattle.cluster_member.specs.States.{IsLogOf, IsStanding, OwnsLog}
+use Rattle.member_rules.specs.Recovery.{HasCaughtUp}
+use Rattle.member_rules.specs.States.{AddsNothing, IsBeside}
+use Rattle.cluster_member.specs.States.{HasLog, IsLogAt, IsLogOf, OwnsLog}
 
-not_both : (a b : Bool) → (a && b) ≡ false → a ≡ true → b ≡ true → ⊥
-not_both true true e p q = cc
-not_both true false e p q = cc
-not_both false b e p q = cc
+is_not : (b : Bool) → b ≡ false → IsTrue b → ⊥
+is_not true e t = cc
+is_not false e t = cc
 
-some_after : (e : Entry) (r : Option (Replica registry_machine)) → IsSome r → IsSome (replica_after e r)
-some_after e None h = cc
-some_after e (Some r) h = refl
+to_true : (b : Bool) → b ≡ true → IsTrue b
+to_true b e = subst (λ (c : Bool). IsTrue c) (sym e) refl
 
--- at a node that isn't a locker that is ready
-pub applied_stands : (j : ReconcileState) (r next : Option (Replica registry_machine)) (last new_last : Option Entry) (o : Option Offering) (log : Option LogValue) (e : Entry)
-    → IsStanding j r last o log → (is_ready j && locks j) ≡ false → next ≡ replica_after e r → IsStanding j next new_last o log
-applied_stands j r next last new_last o log e is other same = record {
-  ready = λ ready. subst (λ (x : Option (Replica registry_machine)). IsSome x) (sym same) (some_after e r (is.ready ready));
-  keeps = λ locker. subst (λ (x : Option (Replica registry_machine)). IsSome x) (sym same) (some_after e r (is.keeps locker));
-  pulls = is.pulls;
-  follows = is.follows;
-  locker = λ ready locker. absurd (not_both (is_ready j) (locks j) other ready locker);
+-- ---- the log is kept
+
+pub fresh_has : (node inc : ℕ) (x : NodeState registry_machine) (log : Option LogValue) → x ≡ fresh registry_machine node inc → HasLog x log
+fresh_has node inc x log is =
+    let waits : is_ready x.join ≡ false = ap (λ (y : NodeState registry_machine). is_ready y.join) is in
+    record { owns = λ ready here. absurd (is_not (is_ready x.join) waits ready) }
+
+-- A node that isn't ready needs none.
+pub unready_has : (x : NodeState registry_machine) (log : Option LogValue) → is_ready x.join ≡ false → HasLog x log
+unready_has x log waits = record { owns = λ ready here. absurd (is_not (is_ready x.join) waits ready) }
+
+owns_same : (view : ℕ) (x y : NodeState registry_machine) (log : Option LogValue) → view ≡ number_of x → y.replica ≡ x.replica → y.last ≡ x.last
+    → OwnsLog (number_of x) x.replica x.last log → OwnsLog view y.replica y.last log
+owns_same view x y log number replica last owns =
+    subst (λ (n : ℕ). OwnsLog n y.replica y.last log) (sym number)
+    (subst (λ (r : Option (Replica registry_machine)). OwnsLog (number_of x) r y.last log) (sym replica)
+    (subst (λ (l : Option Entry). OwnsLog (number_of x) x.replica l log) (sym last) owns))
+
+pub adds_nothing_has : (x y : NodeState registry_machine) (log : Option LogValue) → HasLog x log → AddsNothing x y → HasLog y log
+adds_nothing_has x y log has adds = record {
+  owns = λ ready here.
+      let same = adds.stays ready here in
+      owns_same (number_of y) x y log same.number same.replica same.last (has.owns (to_true (is_ready x.join) same.ready) (to_true (locks x.join) same.locks));
 }
+
+pub beside_has : (x y : NodeState registry_machine) (log : Option LogValue) → HasLog x log → IsBeside x y → HasLog y log
+beside_has x y log has beside = record {
+  owns = λ ready here.
+      owns_same (number_of y) x y log (ap (λ (j : ReconcileState). j.view.number) beside.join) beside.replica beside.last
+      (has.owns (subst (λ (j : ReconcileState). IsTrue (is_ready j)) beside.join ready) (subst (λ (j : ReconcileState). IsTrue (locks j)) beside.join here));
+}
+
+pub stamped_has : (x y : NodeState registry_machine) (log : Option LogValue) (stamp : ℕ) → HasLog x log → y ≡ record x { stamp = stamp } → HasLog y log
+stamped_has x y log stamp has is = subst (λ (z : NodeState registry_machine). HasLog z log) (sym is) (record { owns = has.owns })
+
+-- ---- a record was logged
 
 cap_kept : (e : Entry) (registry : ReplicatedRegistry) → (record_applied e registry).0.cap ≡ registry.cap
 unfolding record_applied
@@ -44,18 +70,19 @@ owns_after view (Some r) last old log e owns claim cap count = record {
   none = (λ none. absurd (cc), λ zero. absurd (omega arith));
 }
 
--- at a locker that has logged the record
-pub logged_stands : (j : ReconcileState) (r next : Option (Replica registry_machine)) (last : Option Entry) (o : Option Offering) (old log : LogValue) (e : Entry)
-    → IsStanding j r last o (Some old) → next ≡ replica_after e r
+pub logged_has : (x y : NodeState registry_machine) (old log : LogValue) (e : Entry)
+    → OwnsLog (number_of x) x.replica x.last (Some old) → y.join ≡ x.join → y.replica ≡ replica_after e x.replica → y.last ≡ Some e
     → log.claim ≡ old.claim → log.cap ≡ old.cap → log.base + log.records ≡ old.base + old.records + 1
-    → IsStanding j next (Some e) o (Some log)
-logged_stands j r next last o old log e is same claim cap count = record {
-  ready = λ ready. subst (λ (x : Option (Replica registry_machine)). IsSome x) (sym same) (some_after e r (is.ready ready));
-  keeps = λ locker. subst (λ (x : Option (Replica registry_machine)). IsSome x) (sym same) (some_after e r (is.keeps locker));
-  pulls = is.pulls;
-  follows = is.follows;
-  locker = λ ready locker. subst (λ (x : Option (Replica registry_machine)). OwnsLog j.view.number x (Some e) (Some log)) (sym same) (owns_after j.view.number r last old log e (is.locker ready locker) claim cap count);
+    → HasLog y (Some log)
+logged_has x y old log e owns join replica last claim cap count = record {
+  owns = λ ready here.
+      subst (λ (j : ReconcileState). OwnsLog j.view.number y.replica y.last (Some log)) (sym join)
+      (subst (λ (r : Option (Replica registry_machine)). OwnsLog (number_of x) r y.last (Some log)) (sym replica)
+      (subst (λ (l : Option Entry). OwnsLog (number_of x) (replica_after e x.replica) l (Some log)) (sym last)
+      (owns_after (number_of x) x.replica x.last old log e owns claim cap count)));
 }
+
+-- ---- a checkpoint was written
 
 owns_still : (view : ℕ) (r : Option (Replica registry_machine)) (last : Option Entry) (old log : LogValue)
     → OwnsLog view r last (Some old) → log.claim ≡ old.claim → log.cap ≡ old.cap → log.base + log.records ≡ old.base + old.records
@@ -68,15 +95,27 @@ owns_still view (Some r) last old log owns claim cap count = record {
   none = owns.none;
 }
 
--- at a locker that has written a checkpoint
-pub saved_stands : (j : ReconcileState) (r : Option (Replica registry_machine)) (last : Option Entry) (o : Option Offering) (old log : LogValue)
-    → IsStanding j r last o (Some old)
-    → log.claim ≡ old.claim → log.cap ≡ old.cap → log.base + log.records ≡ old.base + old.records
-    → IsStanding j r last o (Some log)
-saved_stands j r last o old log is claim cap count = record {
-  ready = is.ready;
-  keeps = is.keeps;
-  pulls = is.pulls;
-  follows = is.follows;
-  locker = λ ready locker. owns_still j.view.number r last old log (is.locker ready locker) claim cap count;
+pub saved_has : (x : NodeState registry_machine) (old log : LogValue)
+    → OwnsLog (number_of x) x.replica x.last (Some old) → log.claim ≡ old.claim → log.cap ≡ old.cap → log.base + log.records ≡ old.base + old.records
+    → HasLog x (Some log)
+saved_has x old log owns claim cap count = record { owns = λ ready here. owns_still (number_of x) x.replica x.last old log owns claim cap count }
+
+-- ---- a log was recovered
+
+owns_caught : (view count cap : ℕ) (last : Option Entry) (log : LogValue) (r : Option (Replica registry_machine)) → IsLogAt view count cap last log → HasCaughtUp r count cap → OwnsLog view r last (Some log)
+owns_caught view count cap last log None at caught = caught
+owns_caught view count cap last log (Some q) at caught = record {
+  claim = at.claim;
+  cap = at.same_cap ∙ sym caught.1;
+  count = at.counted ∙ sym caught.0;
+  none = (λ none. caught.0 ∙ at.no_last.0 none, λ zero. at.no_last.1 (sym caught.0 ∙ zero));
+}
+
+pub recovered_has : (y : NodeState registry_machine) (v : View) (count cap : ℕ) (last : Option Entry) (log : LogValue)
+    → IsLogAt v.number count cap last log → HasCaughtUp y.replica count cap → y.last ≡ last → y.join.view ≡ v → HasLog y (Some log)
+recovered_has y v count cap last log at caught is_last view = record {
+  owns = λ ready here.
+      subst (λ (w : View). OwnsLog w.number y.replica y.last (Some log)) (sym view)
+      (subst (λ (l : Option Entry). OwnsLog v.number y.replica l (Some log)) (sym is_last)
+      (owns_caught v.number count cap last log y.replica at caught));
 }

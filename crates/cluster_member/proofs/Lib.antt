@@ -1,14 +1,5 @@
-pub mod Agreeing
-pub mod Owning
 pub mod Hearings
-pub mod Followed
-pub mod Stages
-pub mod Opened
-pub mod Decoded
-pub mod Ways
 pub mod Installations
 pub mod Keeping
-pub mod Entering
-pub mod Recoveries
-pub mod Sendings
-pub mod Rules
+pub mod Owning
+pub mod Writings

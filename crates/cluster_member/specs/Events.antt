@@ -8,17 +8,15 @@ use Rattle.gum_messages.specs.declared.view.View.{View}
 use Rattle.update_records.specs.declared.update.Update.{Update}
 use Rattle.gum_messages.specs.Members.{is_locker}
 use Rattle.gum_messages.specs.Messages.{Sent}
-use Rattle.gum_core.specs.declared.decision.Decision.{Decision}
-use Rattle.gum_core.specs.declared.decision.Decision.TheVariants as decision
 use Rattle.gum_core.specs.Updating as updating
 use Rattle.quorum_log.specs.declared.found.Found.{Found}
 use Rattle.quorum_log.specs.declared.fault.OpenFault.{OpenFault}
 use Rattle.quorum_log.specs.Logs.{LogValue}
 use Rattle.quorum_log.specs.Opening.{IsInOpen, OpenCalls}
-use Rattle.cluster_rules.specs.declared.effect.Effect.TheVariants.{Acked, Halted, Send}
+use Rattle.cluster_rules.specs.declared.effect.Effect.TheVariants.{Halted}
 use Rattle.cluster_rules.specs.declared.effect.HaltCause.TheVariants as halt
-use Rattle.cluster_rules.specs.Nodes.{NodeState, Out, acknowledges, asks, done_of, halts, locker_at, nothing, number_of, packet, tells}
-use Rattle.cluster_rules.specs.Updates.{Answer, has_logged, on_applied, on_apply, on_ask, on_granted, on_release, without_head, writes}
+use Rattle.cluster_rules.specs.Nodes.{NodeState, Out, done_of, halts, nothing, number_of}
+use Rattle.cluster_rules.specs.Updates.{on_applied, on_apply, on_ask, on_granted, on_release, writes}
 use Rattle.cluster_rules.specs.Joins.{entered, on_need, on_offer, on_open_view, on_piece, on_ready, recovers_from, takes_view}
 use Rattle.cluster_rules.specs.Receiving.{checkpoint, hears, receive}
 use Rattle.single_rules.specs.Logging.{body_to_log, entry_of, to_log}
@@ -32,15 +30,10 @@ use Rattle.record_log.specs.Adding.{Adds, CheckpointsTo, is_due}
 use Rattle.record_log.specs.Opening.{ComesOf, OpensTo}
 use Rattle.cluster_member.specs.declared.stop.Stop.{Stop}
 use Rattle.cluster_member.specs.declared.stop.Stop.TheVariants as stop
-use Rattle.cluster_member.specs.declared.told.Told.{Told}
+use Rattle.member_rules.specs.declared.told.Told.{Told}
+use Rattle.member_rules.specs.Steps.{GoesOn}
 use Rattle.cluster_member.specs.States.{MemberState}
 use Rattle.cluster_member.specs.Logging.{Logs, LogsState, answer_of, answer_to, is_good, is_written, last_bytes, log_after, log_left, state_bytes, stop_of}
-
--- The node goes on as the rule says, and tells what the rule tells.
-pub record GoesOn (out : Out registry_machine) (now : NodeState registry_machine) (told : Told) : Type 0 where
-  pub node : out.node ≡ Some now
-  pub effects : out.effects ≡ told.effects
-  pub outcome : out.outcome ≡ told.outcome
 
 -- What a rule comes to, unless memory ran out. An event whose log ran out of memory ends in that alone: its field `memory` says so.
 abbrev pub Comes : Out registry_machine → Result Told Stop → NodeState registry_machine → Type 0
@@ -79,18 +72,10 @@ pub record Asks (v : DiskView) (x : MemberState) (from req : ℕ) (update : Upda
   pub memory : added ≡ Some (Err add.Memory) → r ≡ Err stop.Memory
   pub kept : OnOk r (y.log ≡ log_left x.log added)
 
--- By what it says.
-abbrev pub Heard : DiskView → MemberState → ℕ → Body → Result Told Stop → MemberState → DiskView → Type 0
-Heard v x from (Ask req update) r y w = Asks v x from req update r y w
-Heard v x from (Granted e) r y w = Enters v (on_granted x.rules e) x.log r y w
-Heard v x from (Apply e) r y w = Enters v (on_apply x.rules from e) x.log r y w
-Heard v x from (Applied place) r y w = Enters v (on_applied x.rules from place) x.log r y w
-Heard v x from (Release req) r y w = Enters v (on_release x.rules from req) x.log r y w
-Heard v x from (Offer count cap last) r y w = Enters v (on_offer x.rules from (record { count = count; cap = cap; last = last })) x.log r y w
-Heard v x from (Need offset) r y w = Enters v (on_need x.rules from offset) x.log r y w
-Heard v x from (Piece total offset bytes) r y w = Enters v (on_piece x.rules total offset bytes) x.log r y w
-Heard v x from Ready r y w = Enters v (on_ready x.rules from) x.log r y w
-Heard v x from OpenView r y w = Enters v (on_open_view x.rules from) x.log r y w
+-- No call is made.
+pub record Goes (out : Out registry_machine) (log : Option LogValue) (r : Result Told Stop) (y : MemberState) : Type 0 where
+  pub comes : Comes out r y.rules
+  pub kept : OnOk r (y.log ≡ log)
 
 -- The record of an Ask is added to the log.
 pub record Writes (v : DiskView) (x : MemberState) (e : Entry) (r : Result Told Stop) (y : MemberState) (w : DiskView) : Type 0 where
@@ -102,20 +87,6 @@ pub record Writes (v : DiskView) (x : MemberState) (e : Entry) (r : Result Told 
   pub memory : added ≡ Err add.Memory → r ≡ Err stop.Memory
   pub kept : OnOk r (y.log ≡ log_after added)
 
--- The head, which has left the queue, is acknowledged, and its lock released.
-abbrev pub finishes : NodeState registry_machine → ℕ → ℕ → Option ℕ → Out registry_machine
-finishes x req place next =
-    acknowledges (without_head x x.core) x.outcome (Acked (number_of x) place ∷ Send (packet x (locker_at x) (Release req)) ∷ asks (without_head x x.core) next)
-
--- What a member does for a decision on its head's record.
-abbrev pub proceeds_by : NodeState registry_machine → Entry → Decision → Out registry_machine
-proceeds_by y e d = elim d [
-  | decision.Spread to place ↦ tells (record y { spreads = Some e }) to (Apply e)
-  | decision.Finish req place next ↦ finishes y req place next
-  | decision.ReleaseAgain req ↦ tells y (locker_at y) (Release req)
-  | _ ↦ nothing y
-]
-
 -- ---- a checkpoint
 
 pub record WritesCheckpoint (v : DiskView) (x : MemberState) (r : Result Told Stop) (y : MemberState) (w : DiskView) : Type 0 where
@@ -124,6 +95,19 @@ pub record WritesCheckpoint (v : DiskView) (x : MemberState) (r : Result Told St
   pub comes : Comes (checkpoint x.rules v.current.held (is_good written)) r y.rules
   pub memory : written ≡ Some (Err add.Memory) → r ≡ Err stop.Memory
   pub kept : OnOk r (y.log ≡ log_left x.log written)
+
+-- At an open locker.
+abbrev pub checkpointed : NodeState registry_machine → ℕ → Bool → Out registry_machine
+checkpointed x held good = if nat_lt (number_of x) held then halts (halt.Fenced held) else (if good then nothing x else halts halt.Disk)
+
+pub record Saves (v : DiskView) (x : MemberState) (r : Result Told Stop) (y : MemberState) (w : DiskView) : Type 0 where
+  pub old : LogValue
+  pub written : Result LogValue AddFault
+  pub had : x.log ≡ Some old
+  pub saves : CheckpointsTo old (state_bytes x) (last_bytes x) v written w
+  pub comes : Comes (checkpointed x.rules v.current.held (is_written written)) r y.rules
+  pub memory : written ≡ Err add.Memory → r ≡ Err stop.Memory
+  pub kept : OnOk r (y.log ≡ log_after written)
 
 -- ---- a view
 

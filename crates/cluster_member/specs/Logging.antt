@@ -14,6 +14,8 @@ use Rattle.cluster_rules.specs.Updates.{Answer, Written, InDoubt, Unwritten}
 use Rattle.log_order.specs.Orders.{last_text}
 use Rattle.record_log.specs.declared.fault.AddFault.{AddFault}
 use Rattle.record_log.specs.declared.fault.AddFault.TheVariants.{Append, Checkpoint, Memory}
+use Rattle.record_log.specs.declared.fault.RecordFault.{RecordFault}
+use Rattle.record_log.specs.declared.fault.RecordFault.TheVariants as records
 use Rattle.record_log.specs.Adding.{Adds, CheckpointsTo, is_due}
 use Rattle.cluster_rules.specs.Nodes.{Replica}
 use Rattle.registry_machine.specs.Machine.{registry_machine}
@@ -38,6 +40,13 @@ abbrev pub stop_of : AddFault → Stop
 stop_of (Checkpoint fault) = stop.Halted (cause_of fault)
 stop_of (Append fault) = stop.Halted (cause_of fault)
 stop_of Memory = stop.Memory
+
+-- The log wasn't recovered: the node halts, unless memory ran out.
+abbrev pub stop_for : RecordFault → Stop
+stop_for records.Failed = stop.Halted halt.Disk
+stop_for (records.Fenced held) = stop.Halted (halt.Fenced held)
+stop_for (records.Image place) = stop.Halted (halt.Image place)
+stop_for records.Memory = stop.Memory
 
 -- The answer that the rule gets, where the log was asked; else none is needed.
 abbrev pub answer_to : Option (Result LogValue AddFault) → Answer

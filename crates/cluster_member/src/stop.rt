@@ -1,11 +1,11 @@
 //! Why a node stops.
 
 ghost use Rattle.std.specs.Prelude.{◌≡◌};
-ghost use Rattle.cluster_member.specs.Logging.{cause_of, stop_of};
+ghost use Rattle.cluster_member.specs.Logging.{cause_of, stop_for, stop_of};
 
 use cluster_rules::HaltCause;
 use quorum_log::AppendFault;
-use record_log::AddFault;
+use record_log::{AddFault, RecordFault};
 use std::alloc::AllocError;
 
 /// Why a node stops. It isn't used again.
@@ -34,6 +34,19 @@ impl From<AddFault> for Stop {
             AddFault::Checkpoint(fault) => Stop::Halted(cause_of(fault)),
             AddFault::Append(fault) => Stop::Halted(cause_of(fault)),
             AddFault::Memory => Stop::Memory,
+        }
+    }
+}
+
+impl From<RecordFault> for Stop {
+    ghost from_gives = { λ fault stop. stop ≡ stop_for fault };
+
+    fn from(fault: RecordFault) -> Stop {
+        match fault {
+            RecordFault::Failed => Stop::Halted(HaltCause::Disk),
+            RecordFault::Fenced { held } => Stop::Halted(HaltCause::Fenced { held }),
+            RecordFault::Image { place } => Stop::Halted(HaltCause::Image { place }),
+            RecordFault::Memory => Stop::Memory,
         }
     }
 }
