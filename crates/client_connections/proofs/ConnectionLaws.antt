@@ -142,3 +142,17 @@ pub hears_on : (v : Serving) (c : ℕ) (piece : List ℕ) (s m t : Clients) (e0 
 hears_on v c piece s m t e0 e1 e2 ending None found none unqueued heard ends = absurd heard
 hears_on v c piece s m t e0 e1 e2 ending (Some k) found none unqueued (refused, gone) ends =
     by_refusal v c piece k s t e2 None refused (goes v c (fed_client k piece) k s m t e0 e1 e2 ending found none unqueued gone ends)
+
+-- ---- a connection that is open went on, and was put back
+
+pub went_on : (v : Serving) (c : ℕ) (k w : Client) (s t : Clients) (e0 e1 : Taken) (ending : Ending) → client_at c s ≡ Some k
+    → Takes v c k.intake w.intake (course_of s.common k.association e0) (course_of t.common w.association e1) ending → t ≡ put_back c t.common w s
+    → GoesSoFar v c (client_at c s) s t e0 e1 (Some ending)
+went_on v c k w s t e0 e1 ending is takes put =
+    subst (λ (client : Option Client). GoesSoFar v c client s t e0 e1 (Some ending)) (sym is) (record { client = w; takes = takes; clients = put })
+
+pub heard_on : (v : Serving) (c : ℕ) (piece : List ℕ) (k w : Client) (s t : Clients) (e0 e1 : Taken) (ending : Ending) → client_at c s ≡ Some k → refusal k.intake piece ≡ None
+    → Takes v c (fed_client k piece).intake w.intake (course_of s.common k.association e0) (course_of t.common w.association e1) ending → t ≡ put_back c t.common w s
+    → HearsSoFar (client_at c s) (Some (Went ending)) v c piece s t e0 e1
+heard_on v c piece k w s t e0 e1 ending is fits takes put =
+    subst (λ (client : Option Client). HearsSoFar client (Some (Went ending)) v c piece s t e0 e1) (sym is) (fits, record { client = w; takes = takes; clients = put })

@@ -13,6 +13,7 @@ pub record Carries (v : Serving) (c : ℕ) (before after : Kept) (p q : Course) 
   pub items : List Item
   pub may : MayAll v c p items
   pub course : q ≡ takes_all v c p items
+  pub side : after.side ≡ before.side
   pub holds : (stream : List ℕ) (given : List Item) → Holds before stream given → Holds after stream (given ++ items)
 
 same_stream : (kept : Kept) (stream : List ℕ) (given : List Item) → Holds kept stream given → Holds kept stream (given ++ [])
@@ -20,7 +21,7 @@ same_stream kept stream given holds = subst (λ (all : List Item). Holds kept st
 
 pub begins : (v : Serving) (c : ℕ) (kept : Kept) (p : Course) → Carries v c kept kept p p
 unfolding MayAll
-begins v c kept p = record { items = []; may = tt; course = refl; holds = same_stream kept }
+begins v c kept p = record { items = []; may = tt; course = refl; side = refl; holds = same_stream kept }
 
 takes_more : (v : Serving) (c : ℕ) (p : Course) (items : List Item) (item : Item) → takes_all v c p (items ++ item ∷ []) ≡ takes_one v c (takes_all v c p items) item
 takes_more v c p [] item = refl
@@ -39,6 +40,7 @@ carries_on v c before kept after p q r so_far went =
       items = so_far.items ++ more ∷ [];
       may = may_more v c p so_far.items more so_far.may may;
       course = went.course ∙ ap (λ (course : Course). takes_one v c course more) so_far.course ∙ sym (takes_more v c p so_far.items more);
+      side = went.side ∙ so_far.side;
       holds = λ stream given holds. subst (λ (all : List Item). Holds after stream all) (append_assoc given so_far.items (more ∷ [])) (went.holds stream (given ++ so_far.items) (so_far.holds stream given holds));
     }
 
@@ -47,6 +49,7 @@ ends v c before kept after p q r ending so_far ended = record {
   items = so_far.items;
   may = so_far.may;
   course = ended.course ∙ so_far.course;
+  side = ended.side ∙ so_far.side;
   rests = subst (λ (course : Course). may_take c course.common ≡ not (is_rest ending)) (sym ended.course) ended.rests;
   stands = λ stream given holds. ended.stands stream (given ++ so_far.items) (so_far.holds stream given holds);
 }

@@ -1,5 +1,5 @@
 -- One turn: what the intake gives next is taken, or ends the turns.
-use Rattle.std.proofs.Common.{◌≡◌, ℕ, true, List, Option, Some, None, Ok, sym, ◌∙◌, subst}
+use Rattle.std.proofs.Common.{◌≡◌, ℕ, true, List, Option, Some, None, Ok, sym, ap, ◌∙◌, subst}
 use Rattle.rpc_calls.specs.declared.intake_fault.IntakeFault.{IntakeFault}
 use Rattle.rpc_calls.specs.declared.item.Item.{Item}
 use Rattle.rpc_calls.specs.declared.side.Side.{Side}
@@ -20,6 +20,7 @@ pub waits : (c : ℕ) (before kept after : Kept) (p q : Course) → kept ≡ bef
     → NextIs (Ok None) kept after → Ended c before after p q Waits
 waits c before kept after p q same still may served stays next = record {
   course = still;
+  side = stays.side ∙ ap (λ (k : Kept). k.side) same;
   rests = may;
   stands = λ stream given holds. let gives = next stream given (subst (λ (k : Kept). Holds k stream given) (sym same) holds) in
       (gives.0, of_server kept after stream given no_fault served stays gives.1);
@@ -30,6 +31,7 @@ pub fails : (c : ℕ) (before kept after : Kept) (p q : Course) (fault : IntakeF
     → Ended c before after p q (Fails fault)
 fails c before kept after p q fault same still may served stays next = record {
   course = still;
+  side = stays.side ∙ ap (λ (k : Kept). k.side) same;
   rests = may;
   stands = λ stream given holds. let gives = next stream given (subst (λ (k : Kept). Holds k stream given) (sym same) holds) in
       (gives.0, of_server kept after stream given (Some fault) served stays gives.1);

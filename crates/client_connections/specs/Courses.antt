@@ -23,11 +23,13 @@ pub record WentOn (v : Serving) (c : ℕ) (before after : Kept) (p q : Course) :
   pub item : Item
   pub may : may_take c p.common ≡ true
   pub course : q ≡ takes_one v c p item
+  pub side : after.side ≡ before.side
   pub holds : (stream : List ℕ) (given : List Item) → Holds before stream given → Holds after stream (given ++ item ∷ [])
 
 -- None was taken.
 pub record Ended (c : ℕ) (before after : Kept) (p q : Course) (ending : Ending) : Type 0 where
   pub course : q ≡ p
+  pub side : after.side ≡ before.side
   pub rests : may_take c p.common ≡ not (is_rest ending)
   pub stands : (stream : List ℕ) (given : List Item) → Holds before stream given → Holds after stream given × Ends ending stream given
 

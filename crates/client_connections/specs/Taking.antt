@@ -92,6 +92,7 @@ pub record Takes (v : Serving) (c : ℕ) (before after : Kept) (p q : Course) (e
   pub may : MayAll v c p items
   pub course : q ≡ takes_all v c p items
   pub rests : may_take c q.common ≡ not (is_rest ending)
+  pub side : after.side ≡ before.side
   pub stands : (stream : List ℕ) (given : List Item) → Holds before stream given → Holds after stream (given ++ items) × Ends ending stream (given ++ items)
 
 -- ---- why a connection is closed

@@ -159,6 +159,7 @@ impl Connections {
     }
 
     /// The same up to what follows.
+    #[tactic(auto, using(crate::proofs::ConnectionLaws::heard_on))]
     fn hear_so_far(
         &mut self,
         conn: u32,
@@ -207,6 +208,7 @@ impl Connections {
     }
 
     /// The same up to what follows of the ending. None where the connection isn't open.
+    #[tactic(auto, using(crate::proofs::ConnectionLaws::went_on))]
     fn go_on(
         &mut self,
         conn: u32,

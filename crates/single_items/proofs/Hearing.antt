@@ -29,7 +29,7 @@ use Rattle.single_rules.proofs.Refused.{grants_none, halts_fenced, halts_in_doub
 use Rattle.single_rules.specs.Rounds.{all_made}
 use Rattle.single_rules.specs.Single.{IsSound, Single, ask, asking, at_rest, grant, granting, lock_of, made, outcome_of, release, releasing, updated, with_queue}
 use Rattle.single_items.specs.Alone.{AloneRun, alone, answer_alone, done_alone, update_alone}
-use Rattle.single_items.specs.Events.{AnswersHead, AreServed, FollowsAcks, MessageComes, GoesFurther, told_to}
+use Rattle.single_items.specs.Events.{AnswersHead, FollowsAcks, MessageComes, GoesFurther, told_to}
 use Rattle.single_items.specs.Promises.{MessageLeads}
 use Rattle.single_items.specs.Standing.{Asked, Calm, FitsWay, Granting, GrownFrom, IsBehind, IsCallOf, IsHeardOn, IsKeptFrom, Lately, NodeAlone, StandsAt, Stuck, Way, clients_of, left_on, logged_on, node_on, promised_on, queued_on, node_alone, waiting_on}
 use Rattle.single_items.proofs.Finishing.{answered_clients, finishes, keeps_association}
@@ -249,13 +249,13 @@ module _ (c : ℕ) (first : AloneRun) (stream : List ℕ) (given : List Item) (y
           conns = (c, record { intake = kept; association = association }) ∷ [];
         }) (sym e)
 
-    further : (m : NodeState registry_machine) (more : List Effect) → AreServed t.conns → m ≡ releasing r.single u
+    further : (m : NodeState registry_machine) (more : List Effect) → m ≡ releasing r.single u
         → GoesFurther (Some c) m (answered_clients c r kept Given) y t more → es ≡ Acks ++ more
         → Stood r [] ((r.records ++ made r.single u ∷ []) ++ [])
-    further m more servers there goes says =
+    further m more there goes says =
         let s : Clients = clients_of c [] Done (Some kept) in
         let here = subst (λ (x : NodeState registry_machine). GoesFurther (Some c) x s y t more) there (subst (λ (v : Clients). GoesFurther (Some c) m v y t more) clients_done goes) in
-        let z = served c first stream given Behind tt Done kept kept ready y t more servers (record {
+        let z = served c first stream given Behind tt Done kept kept ready y t more (record {
           told = here.told;
           update = here.update;
           took = subst (λ (client : Option Client). Resumes (serving_with Done) c client s t here.told here.update) (found_one s.common c (client_of kept Done)) here.took;
@@ -282,42 +282,42 @@ module _ (c : ℕ) (first : AloneRun) (stream : List ℕ) (given : List Item) (y
             let acks : r.output ++ told_to c (Acks ++ more) ≡ Done.output ++ told_to c more = simp (same, append_assoc) in
             ap (λ (l : List Effect). r.output ++ told_to c l) says ∙ acks ∙ rest
 
-    hears_granted : AreServed t.conns → Hears (Granting origin u) r (Some kept) (grant r.single u) [] held answer
-    hears_granted servers =
+    hears_granted : Hears (Granting origin u) r (Some kept) (grant r.single u) [] held answer
+    hears_granted =
         let out : Out registry_machine = acknowledges (releasing r.single u) (Some (outcome_of r.single u)) (Acked r.single.view (r.single.done + 1) ∷ Send (release r.single) ∷ []) in
         by_event (Granting origin u) r (Some kept) (grant r.single u) [] held answer (unlogged out) (finishes_one r.single u held answer (sound_now first r 1 grown))
         (λ h. let m : NodeState registry_machine = h.0 in
         let a = subst (λ (f : Finish). AnswersHead f out m y t es) (finishes c (r.single.passed + 1) (r.single.done + 1) origin (outcome_of r.single u) r kept own) h.2 in
-        further m a.0 servers (sym (some_is (releasing r.single u) m h.1)) a.1 a.2)
+        further m a.0 (sym (some_is (releasing r.single u) m h.1)) a.1 a.2)
 
   -- ---- any message
 
   hears_on : (way : Way) (r : AloneRun) (intake : Option Kept) (p : Sent) (left : List Sent) (held : ℕ) (answer : Answer) → FitsWay c way r intake → GrownFrom first (queued_on way) r
-      → promised_on way r ≡ alone c first given → IsHeardOn way r intake stream given → left_on way r.single ≡ p ∷ left → AreServed t.conns → Hears way r intake p left held answer
-  hears_on (Calm None) r intake p left held answer fits grown promised heard e servers = absurd (cc)
-  hears_on (Calm (Some l)) r intake p left held answer fits grown promised heard e servers =
+      → promised_on way r ≡ alone c first given → IsHeardOn way r intake stream given → left_on way r.single ≡ p ∷ left → Hears way r intake p left held answer
+  hears_on (Calm None) r intake p left held answer fits grown promised heard e = absurd (cc)
+  hears_on (Calm (Some l)) r intake p left held answer fits grown promised heard e =
       on_first (λ q rest. Hears (Calm (Some l)) r intake q rest held answer) (release l.before) p [] left e (hears_free l r intake held answer fits grown promised heard)
-  hears_on (Asked (Some l) origin u) r intake p left held answer fits grown promised heard e servers =
+  hears_on (Asked (Some l) origin u) r intake p left held answer fits grown promised heard e =
       on_first (λ q rest. Hears (Asked (Some l) origin u) r intake q rest held answer) (release l.before) p (ask r.single u ∷ []) left e
       (hears_free_asked l origin u r intake held answer fits grown promised heard)
-  hears_on (Asked None origin u) r None p left held answer fits grown promised heard e servers = absurd fits.3
-  hears_on (Asked None origin u) r (Some kept) p left held answer fits grown promised heard e servers =
+  hears_on (Asked None origin u) r None p left held answer fits grown promised heard e = absurd fits.3
+  hears_on (Asked None origin u) r (Some kept) p left held answer fits grown promised heard e =
       on_first (λ q rest. Hears (Asked None origin u) r (Some kept) q rest held answer) (ask r.single u) p [] left e
       (hears_ask origin u r kept held answer fits.1 fits.2 grown promised heard (nat_lt r.single.done last_place) refl)
-  hears_on (Granting origin u) r None p left held answer fits grown promised heard e servers = absurd fits.3
-  hears_on (Granting origin u) r (Some kept) p left held answer fits grown promised heard e servers =
+  hears_on (Granting origin u) r None p left held answer fits grown promised heard e = absurd fits.3
+  hears_on (Granting origin u) r (Some kept) p left held answer fits grown promised heard e =
       on_first (λ q rest. Hears (Granting origin u) r (Some kept) q rest held answer) (grant r.single u) p [] left e
-      (hears_granted origin u r kept held answer fits.0 fits.1 fits.2 grown promised heard servers)
-  hears_on (Stuck head others origins) r intake p left held answer fits grown promised heard e servers = absurd (cc)
+      (hears_granted origin u r kept held answer fits.0 fits.1 fits.2 grown promised heard)
+  hears_on (Stuck head others origins) r intake p left held answer fits grown promised heard e = absurd (cc)
 
 pub hears_message : (c : ℕ) (first : AloneRun) (stream : List ℕ) (z : NodeAlone) (output : List ℕ) (records : List Entry) → StandsAt c first stream z output records → MessageLeads c first stream z output records
-hears_message c first stream z output records h p left held answer y t es at heard servers =
+hears_message c first stream z output records h p left held answer y t es at heard =
     let w : Way = h.phase.way in
     let r : AloneRun = h.phase.run in
     let first_left : left_on w r.single ≡ p ∷ left = sym (ap (λ (x : NodeAlone). x.left) h.is) ∙ at in
     let here = subst (λ (x : NodeAlone). MessageComes p held answer x.node x.clients y t es) h.is heard in
     let logged : (receive (node_on w r.single) p held answer).appended ≡ (receive z.node p held answer).appended = ap (λ (x : NodeAlone). (receive x.node p held answer).appended) (sym h.is) in
-    let z1 = hears_on c first stream h.given y t es w r h.phase.intake p left held answer h.fits h.grown h.promised h.heard first_left servers (here.left, here.node, here.follows) in
+    let z1 = hears_on c first stream h.given y t es w r h.phase.intake p left held answer h.fits h.grown h.promised h.heard first_left (here.left, here.node, here.follows) in
     subst (λ (l : List ℕ). StandsAt c first stream (stand y t (left ++ sent es)) (l ++ told_to c es) (records ++ option_to_list (receive z.node p held answer).appended)) (sym h.told)
     (subst (λ (l : List Entry). StandsAt c first stream (stand y t (left ++ sent es)) (r.output ++ told_to c es) (l ++ option_to_list (receive z.node p held answer).appended)) (sym h.logged)
     (subst (λ (e : Option Entry). StandsAt c first stream (stand y t (left ++ sent es)) (r.output ++ told_to c es) (logged_on w r ++ option_to_list e)) logged z1))

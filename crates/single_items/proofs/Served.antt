@@ -22,7 +22,7 @@ use Rattle.client_connections.specs.Taking.{GoesOn}
 use Rattle.single_rules.proofs.Comparisons.{not_less}
 use Rattle.single_rules.specs.Single.{Single}
 use Rattle.single_items.specs.Alone.{AloneRun, alone, item_alone, update_alone}
-use Rattle.single_items.specs.Events.{AreServed, IsServedBy, submitted_if, told_to}
+use Rattle.single_items.specs.Events.{IsServedBy, submitted_if, told_to}
 use Rattle.single_items.specs.Standing.{Asked, Calm, FitsWay, GrownFrom, IsAllTaken, IsCallOf, IsHeardOn, IsKeptFrom, Granting, NodeAlone, StandsAt, Stuck, Way, clients_of, left_on, logged_on, node_on, promised_on, queued_on, waiting_on}
 use Rattle.single_items.proofs.Serving.{Went, WentAway, WentCalmly, WentQueueing, client_of, goes_alone}
 use Rattle.single_items.proofs.Submitting.{IsIdle, asks_on, pushed, submits_on}
@@ -277,9 +277,9 @@ module _ (c : ℕ) (first : AloneRun) (stream : List ℕ) (given : List Item) (w
   goes (Some u) (inr (inr g)) node effects = goes_queueing c first stream given way idle r before ready y t es told u g node effects
 
 pub served : (c : ℕ) (first : AloneRun) (stream : List ℕ) (given : List Item) (way : Way) (idle : IsIdle way) (r : AloneRun) (before kept : Kept) → Ready c first stream given way idle r before
-    → (y : NodeState registry_machine) (t : Clients) (es : List Effect) → AreServed t.conns
+    → (y : NodeState registry_machine) (t : Clients) (es : List Effect)
     → IsServedBy (GoesOn (serving_with r) c (client_of before r) (clients_of c (waiting_on way) r (Some kept))) (node_on way r.single) y t es
     → StandsAt c first stream (stand y t (left_on way r.single ++ sent es)) (r.output ++ told_to c es) r.records
-served c first stream given way idle r before kept ready y t es servers h =
+served c first stream given way idle r before kept ready y t es h =
     goes c first stream given way idle r before ready y t es h.told h.update
-    (goes_alone c (waiting_on way) r before kept t h.told h.update servers ready.waits ready.grown.items h.took) h.node h.effects
+    (goes_alone c (waiting_on way) r before kept t h.told h.update ready.waits ready.grown.items h.took) h.node h.effects

@@ -18,7 +18,7 @@ use Rattle.client_connections.specs.Clients.{Client, Clients, left_by, may_take,
 use Rattle.client_connections.specs.Items.{most_taken}
 use Rattle.client_connections.specs.Taking.{Course, Ends, GoesOn, cause_of, effects_of, goes_on, is_rest}
 use Rattle.single_items.specs.Alone.{AloneRun, alone, takes_alone, update_alone}
-use Rattle.single_items.specs.Events.{AreServed, told_to}
+use Rattle.single_items.specs.Events.{told_to}
 use Rattle.single_items.specs.Standing.{IsAllTaken, IsCallOf, IsKeptFrom, clients_of}
 use Rattle.single_items.proofs.Keeping.{left_one, put_one}
 use Rattle.single_items.proofs.Taking.{Reached, TookAll, TookUpdate, all_taken, course_at, serving_with, shuts}
@@ -104,19 +104,16 @@ module _ (c : ℕ) (old : List Origin) (r : AloneRun) (before kept : Kept) (t : 
     abbrev Stands : Ending → Type 0
     Stands ending = (stream : List ℕ) (given : List Item) → Holds before stream given → Holds intake stream (given ++ items) × Ends ending stream (given ++ items)
 
-    kept_on : (waiting : List Origin) (s : AloneRun) → AreServed t.conns → t ≡ clients_of c waiting s (Some intake) → intake.side ≡ Server
-    kept_on waiting s served is = (subst (λ (v : Clients). AreServed v.conns) is served).0.side
-
-    calm : AreServed t.conns → TookAll c old r.output r items q → t ≡ goes_on c intake q Waits Here → told ≡ q.effects → queued ≡ q.update
+    calm : intake.side ≡ before.side → TookAll c old r.output r items q → t ≡ goes_on c intake q Waits Here → told ≡ q.effects → queued ≡ q.update
         → ((stream : List ℕ) (given : List Item) → Holds before stream given → Holds intake stream (given ++ items) × IsAllTaken stream (given ++ items) (alone c r items)) → WentCalmly c old r before t told queued
-    calm served took put says update carries = let there = put ∙ put_there intake (alone c r items) old q q.effects None took.course in record {
+    calm side took put says update carries = record {
       items = items;
       intake = intake;
       took = subst (Reached c r.output r (alone c r items)) (sym says) took.reached;
       further = took.further;
       few = took.few;
-      clients = there;
-      carries = λ stream given kept_. let h = carries stream given kept_.holds in (record { side = kept_on old (alone c r items) served there; holds = h.0 }, h.1);
+      clients = put ∙ put_there intake (alone c r items) old q q.effects None took.course;
+      carries = λ stream given kept_. let h = carries stream given kept_.holds in (record { side = side ∙ kept_.side; holds = h.0 }, h.1);
       update = update ∙ ap (λ (p : Course). p.update) took.course;
     }
 
@@ -131,14 +128,14 @@ module _ (c : ℕ) (old : List Origin) (r : AloneRun) (before kept : Kept) (t : 
         let shut : may_take c q.common ≡ false = ap (λ (p : Course). may_take c p.common) took.course ∙ shuts c took.run.taken took.run.client.handles old took.origin took.own in
         let e : true ≡ false = sym open_ ∙ shut in absurd (cc)
 
-    by_ending : (ending : Ending) → AreServed t.conns → r.waits ≡ list_any (waits_at c) old → may_take c q.common ≡ not (is_rest ending) → Stands ending
+    by_ending : (ending : Ending) → intake.side ≡ before.side → r.waits ≡ list_any (waits_at c) old → may_take c q.common ≡ not (is_rest ending) → Stands ending
         → t ≡ goes_on c intake q ending Here → told ≡ effects_of c q ending → queued ≡ q.update
         → TookAll c old r.output r items q ⊎ TookUpdate c old r.output r items q → Went c old r before t told queued
-    by_ending Waits served waits rests stands put says update (inl took) =
-        inl (calm served took put says update (λ stream given holds. let s = stands stream given holds in (s.0, inl s.1)))
-    by_ending Rests served waits rests stands put says update (inl took) =
-        inl (calm served took put says update (λ stream given holds. let s = stands stream given holds in (s.0, inr (rested took waits rests))))
-    by_ending (Fails fault) served waits rests stands put says update (inl took) =
+    by_ending Waits side waits rests stands put says update (inl took) =
+        inl (calm side took put says update (λ stream given holds. let s = stands stream given holds in (s.0, inl s.1)))
+    by_ending Rests side waits rests stands put says update (inl took) =
+        inl (calm side took put says update (λ stream given holds. let s = stands stream given holds in (s.0, inr (rested took waits rests))))
+    by_ending (Fails fault) side waits rests stands put says update (inl took) =
         inr (inl (record {
           items = items;
           intake = intake;
@@ -150,8 +147,7 @@ module _ (c : ℕ) (old : List Origin) (r : AloneRun) (before kept : Kept) (t : 
           ends = λ stream given kept_. (stands stream given kept_.holds).1;
           update = update ∙ ap (λ (p : Course). p.update) took.course;
         }))
-    by_ending Rests served waits rests stands put says update (inr took) =
-        let there = put ∙ put_there intake took.run (old ++ took.origin ∷ []) q q.effects (Some took.update) took.course in
+    by_ending Rests side waits rests stands put says update (inr took) =
         inr (inr (record {
           items = items;
           intake = intake;
@@ -163,15 +159,15 @@ module _ (c : ℕ) (old : List Origin) (r : AloneRun) (before kept : Kept) (t : 
           further = took.further;
           few = took.few;
           promised = took.promised;
-          clients = there;
-          carries = λ stream given kept_. (record { side = kept_on (old ++ took.origin ∷ []) took.run served there; holds = (stands stream given kept_.holds).0 }, tt);
+          clients = put ∙ put_there intake took.run (old ++ took.origin ∷ []) q q.effects (Some took.update) took.course;
+          carries = λ stream given kept_. (record { side = side ∙ kept_.side; holds = (stands stream given kept_.holds).0 }, tt);
           update = update ∙ ap (λ (p : Course). p.update) took.course;
         }))
-    by_ending Waits served waits rests stands put says update (inr took) = absurd (queues_open took rests)
-    by_ending (Fails fault) served waits rests stands put says update (inr took) = absurd (queues_open took rests)
+    by_ending Waits side waits rests stands put says update (inr took) = absurd (queues_open took rests)
+    by_ending (Fails fault) side waits rests stands put says update (inr took) = absurd (queues_open took rests)
 
-  pub goes_alone : AreServed t.conns → r.waits ≡ list_any (waits_at c) old → r.taken ≤ most_taken → GoesOn (serving_with r) c (client_of before r) Here t told queued → Went c old r before t told queued
-  goes_alone served waits few g =
+  pub goes_alone : r.waits ≡ list_any (waits_at c) old → r.taken ≤ most_taken → GoesOn (serving_with r) c (client_of before r) Here t told queued → Went c old r before t told queued
+  goes_alone waits few g =
       let took = all_taken c old g.takes.items r.output r [] waits (sym (append-nil r.output)) refl few g.takes.may in
-      by_ending g.takes.items g.intake g.course g.ending served waits g.takes.rests g.takes.stands g.clients g.effects g.update
+      by_ending g.takes.items g.intake g.course g.ending g.takes.side waits g.takes.rests g.takes.stands g.clients g.effects g.update
       (subst (λ (p : Course). TookAll c old r.output r g.takes.items p ⊎ TookUpdate c old r.output r g.takes.items p) (sym g.takes.course) took)

@@ -13,7 +13,7 @@ use Rattle.cluster_rules.specs.Receiving.{receive}
 use Rattle.cluster_rules.specs.Updates.{Answer, submit}
 use Rattle.cluster_rules.specs.Worlds.{acked}
 use Rattle.registry_machine.specs.Machine.{registry_machine}
-use Rattle.client_connections.specs.Clients.{Client, Clients, IsServed, client_at}
+use Rattle.client_connections.specs.Clients.{Clients, client_at}
 use Rattle.client_connections.specs.Finishing.{Finish, finished}
 use Rattle.client_connections.specs.Taking.{Hears, Resumes, Serving, serving}
 
@@ -70,13 +70,6 @@ pub record MessageComes (p : Sent) (held : ℕ) (answer : Answer) (x : NodeState
   pub left : NodeState registry_machine
   pub node : (receive x p held answer).out.node ≡ Some left
   pub follows : FollowsAcks (acked (receive x p held answer).out.effects) x.core.passed s (receive x p held answer).out left y t es
-
--- ---- what is always so of the connections
-
--- Their intakes are a server's.
-abbrev pub AreServed : List (ℕ × Client) → Type 0
-AreServed [] = Unit {0}
-AreServed ((c, k) ∷ conns) = IsServed k.intake × AreServed conns
 
 -- ---- what a connection is sent
 

@@ -24,7 +24,7 @@ use Rattle.gum_core.specs.Updating.{last_place}
 use Rattle.single_rules.specs.Promises.{InPlaces, OnOrder}
 use Rattle.single_rules.specs.Single.{IsSound, Single, at_rest}
 use Rattle.single_items.specs.Alone.{AloneRun, alone, begins_alone, next_alone, opened_alone}
-use Rattle.single_items.specs.Events.{AreServed, MessageComes, PieceComes, told_to}
+use Rattle.single_items.specs.Events.{MessageComes, PieceComes, told_to}
 use Rattle.single_items.specs.Standing.{NodeAlone, StandsAt, Stuck, Way, left_on, node_on, queued_on, waiting_on}
 
 -- The node with its connections behind an event that had these effects.
@@ -35,7 +35,7 @@ behind y t left es = record { node = y; clients = t; left = left ++ sent es }
 abbrev pub MessageLeads : ℕ → AloneRun → List ℕ → NodeAlone → List ℕ → List Entry → Type 0
 MessageLeads c first stream z output records =
     (p : Sent) (left : List Sent) (held : ℕ) (answer : Answer) (y : NodeState registry_machine) (t : Clients) (es : List Effect)
-    → z.left ≡ p ∷ left → MessageComes p held answer z.node z.clients y t es → AreServed t.conns
+    → z.left ≡ p ∷ left → MessageComes p held answer z.node z.clients y t es
     → StandsAt c first stream (behind y t left es) (output ++ told_to c es) (records ++ option_to_list (receive z.node p held answer).appended)
 
 -- The piece is no part of the stream: the connection was closed before, or it is now, since the piece was too much.
@@ -48,7 +48,7 @@ IsRefused c piece s es =
 abbrev pub PieceLeads : ℕ → AloneRun → List ℕ → NodeAlone → List ℕ → List Entry → Type 0
 PieceLeads c first stream z output records =
     (piece : List ℕ) (y : NodeState registry_machine) (t : Clients) (es : List Effect)
-    → z.left ≡ [] → PieceComes c piece z.node z.clients y t es → AreServed t.conns
+    → z.left ≡ [] → PieceComes c piece z.node z.clients y t es
     → StandsAt c first (stream ++ piece) (behind y t [] es) (output ++ told_to c es) records
     ⊎ (StandsAt c first stream (behind y t [] es) output records × IsRefused c piece z.clients es)
 
