@@ -1,0 +1,4 @@
+pub mod Spaces
+pub mod UnitsRead
+pub mod NumbersRead
+pub mod DataRead

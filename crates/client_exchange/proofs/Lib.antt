@@ -1,0 +1,2 @@
+pub mod BindSpells
+pub mod RequestSizes

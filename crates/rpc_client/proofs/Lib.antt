@@ -1,0 +1,4 @@
+pub mod RunLaws
+pub mod HoldingLaws
+pub mod StreamGrowth
+pub mod TurnLaws
