@@ -1,11 +1,10 @@
 -- The lines of a key by levels: its own lines, those of its subkeys one after the other, and its end.
-use Rattle.std.proofs.Common.{◌≡◌, ℕ, zero, suc, ◌+◌, ◌-◌, ◌<◌, ◌≤◌, List, [], ◌∷◌, ◌++◌, length, get_or, refl, sym, ap, subst, ◌∙◌, append_assoc, All, arith}
+use Rattle.std.proofs.Common.{◌≡◌, ℕ, zero, suc, ◌+◌, ◌-◌, ◌<◌, List, [], ◌∷◌, ◌++◌, length, get_or, refl, sym, ap, subst, ◌∙◌, append_assoc, All, arith}
 use Rattle.std.specs.Prelude.{codes, flat_map}
-use Rattle.std.specs.List.{AllByRecursion, list_all}
-use Rattle.std.proofs.lemmas.List.{append-nil}
+use Rattle.std.specs.List.{AllByRecursion}
 use Rattle.std.proofs.lemmas.List.Elements.{All-head, All-tail}
 use Rattle.std.proofs.lemmas.Bool.{lt-ltb}
-use Rattle.clus_names.specs.Limits.{LacksZero, IsPartUnit, IsPart}
+use Rattle.clus_names.specs.Limits.{LacksZero, IsPartUnit}
 use Rattle.registry_defs.specs.Keys.{KeyData, Keys}
 use Rattle.registry_defs.specs.Limits.{IsKey, IsNamed, IsRegistry}
 use Rattle.registry_defs.specs.Nodes.{Node, keys_of, name_of, under, spread}
@@ -86,7 +85,7 @@ printed node nodes below before one two three own values kids =
 
 -- ---- names
 
-no_zero : (units : List ℕ) → All IsPartUnit units → LacksZero units
+pub no_zero : (units : List ℕ) → All IsPartUnit units → LacksZero units
 no_zero [] h = refl
 no_zero (unit ∷ units) h =
     let first = lt-ltb 0 unit (All-head IsPartUnit unit units h).not_zero in

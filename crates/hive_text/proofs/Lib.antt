@@ -1,1 +1,4 @@
 pub mod KeyLines
+pub mod CutLaws
+pub mod ChangeSizes
+pub mod ChangeLists

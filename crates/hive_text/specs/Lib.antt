@@ -1,1 +1,4 @@
 pub mod HiveText
+pub mod Changes
+pub mod Batches
+pub mod Batching

@@ -5,10 +5,15 @@
 //! | `# TEXT`, or nothing | is printed as it is |
 //! | `let NAME BYTES` | names these bytes |
 //! | `state CAP PIECE BYTES` | reads a state in pieces of so many bytes, whole where PIECE is 0 |
+//! | `text CAP BYTES` | prints the registry of a state as text |
+//! | `batches CAP BYTES` | prints `batch COUNT SIZE` for each batch of updates that the registry comes to: its changes and its bytes |
+//! | `updates CAP BYTES` | prints `update HEX` for each of them |
 //!
 //! BYTES are words: hex, `HEX*COUNT` for the same COUNT times, or `$NAME`. A state prints the size of its registry, or
 //! `bad` with the place of the first field at fault. Any other line ends the program, with its number.
 #![tactic(auto)]
+
+mod texts;
 
 ghost use Rattle.std.specs.Prelude.{◌<◌, ◌≤◌};
 ghost use Rattle.registry_defs.specs.Contents.{IsCap};
@@ -18,6 +23,7 @@ use row_words::{Names, RowFault, bytes_of};
 use std::alloc::Global;
 use std::io;
 use std::process::ExitCode;
+use texts::{batches_row, text_row, updates_row};
 
 fn main(rt: HostRuntime) -> ExitCode {
     match play_all(&rt) {
@@ -54,6 +60,9 @@ fn play(alloc: Global, names: &mut Names, line: &str) -> Result<String, RowFault
     match line.split_once(' ') {
         Some(("let", text)) => let_row(alloc, names, text),
         Some(("state", text)) => state_row(alloc, names, text),
+        Some(("text", text)) => text_row(alloc, names, text),
+        Some(("batches", text)) => batches_row(alloc, names, text),
+        Some(("updates", text)) => updates_row(alloc, names, text),
         _ => Err(RowFault::Bad),
     }
 }
