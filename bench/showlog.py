@@ -13,16 +13,11 @@ import sys
 import tempfile
 import time
 
+from images import image, name, value
+
 TOP = pathlib.Path(__file__).resolve().parent.parent
 PROGRAM = TOP / "crates" / "mscs" / "out" / "mscs"
-CAP = 16_777_216
-HALF = CAP + 327_680
 RUNS = 20
-
-
-def name(text):
-    units = text.encode("utf-16-le")
-    return struct.pack("<H", len(units) // 2) + units
 
 
 def record(place):
@@ -31,21 +26,9 @@ def record(place):
     return struct.pack("<QQHQQ", place, 0, 1, 1, place) + update
 
 
-def value(text, data):
-    return name(text) + struct.pack("<II", 3, len(data)) + data
-
-
 def state(values):
     """A root with these values and no subkeys."""
     return struct.pack("<QI", 0, len(values)) + b"".join(values) + struct.pack("<I", 0)
-
-
-def image(spelled, records):
-    header = b"\1MSCSLOG" + struct.pack("<II", 2, CAP) + bytes(48)
-    half = b"\1" + struct.pack("<QQII", 1, 1 << 63, len(spelled), 0) + spelled
-    for entry in records:
-        half += b"\1" + struct.pack("<I", len(entry)) + entry
-    return (header + half).ljust(64 + 2 * HALF, b"\0")
 
 
 def measure(title, log):

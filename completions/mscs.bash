@@ -2,7 +2,7 @@
 _mscs() {
     COMPREPLY=()
     if [ "$COMP_CWORD" -eq 1 ]; then
-        mapfile -t COMPREPLY < <(compgen -W "session serve format showlog" -- "$2")
+        mapfile -t COMPREPLY < <(compgen -W "session serve format showlog export" -- "$2")
         return
     fi
     case "${COMP_WORDS[1]}:$COMP_CWORD" in

@@ -1,12 +1,13 @@
 -- The words ask for one command, which ends as it may.
 use Rattle.std.proofs.Common.{◌≡◌, ℕ, List, Option, Some, refl, inl, inr, subst}
 use Rattle.causes.specs.Counts.{Rose}
-use Rattle.command_words.specs.Commands.{Asked, Asks, format, serve, session, showlog}
+use Rattle.command_words.specs.Commands.{Asked, Asks, export, format, serve, session, showlog}
 use Rattle.clus_cli.specs.declared.status.Status.{Status}
 use Rattle.clus_cli.specs.declared.status.Status.TheVariants as statuses
 use Rattle.clus_cli.specs.Commands.{FormatEnds}
 use Rattle.clus_cli.specs.Doors.{ServeEnds}
-use Rattle.clus_cli.specs.Ends.{Ends, MayEnd, Outside}
+use Rattle.clus_cli.specs.Ends.{Ends, MayEnd, MayPrint, Outside}
+use Rattle.clus_cli.specs.Export.{ExportRuns}
 use Rattle.clus_cli.specs.Session.{SessionEnds}
 use Rattle.clus_cli.specs.Showlog.{Prints, Refuses, ShowRuns}
 
@@ -42,7 +43,7 @@ format_may most statuses.NoMemory v w ends = tt
 format_may most statuses.Usage v w ends = absurd ends
 format_may most (statuses.BadLog place) v w ends = absurd ends
 
-refused_may : (status : Status) (v w : Outside) → Refuses v.disk status w.disk → MayEnd showlog status v w
+refused_may : (status : Status) (v w : Outside) → Refuses v.disk status w.disk → MayPrint status v w
 refused_may (statuses.BadLog place) v w why = why.1
 refused_may statuses.DiskFault v w why = why.1
 refused_may (statuses.Fenced held) v w why = why
@@ -53,7 +54,7 @@ refused_may statuses.WriteFault v w why = absurd why
 refused_may statuses.Usage v w why = absurd why
 
 printed_may : (before : Option (List ℕ)) (text : List ℕ) (status : Status) (now : Option (List ℕ)) (v w : Outside) → Prints before text status now
-    → (status ≡ statuses.WriteFault → Rose v.writes w.writes) → MayEnd showlog status v w
+    → (status ≡ statuses.WriteFault → Rose v.writes w.writes) → MayPrint status v w
 printed_may before text statuses.Done now v w prints write = tt
 printed_may before text statuses.WriteFault now v w prints write = write refl
 printed_may before text statuses.NoMemory now v w prints write = tt
@@ -71,11 +72,20 @@ showlog_may before now status v w runs write =
       | inr shown ↦ printed_may before _ status now v w shown.prints write
     ]
 
+pub export_may : (before now : Option (List ℕ)) (status : Status) (v w : Outside) → ExportRuns v.disk before status w.disk now
+    → (status ≡ statuses.WriteFault → Rose v.writes w.writes) → MayEnd export status v w
+export_may before now status v w runs write =
+    elim runs.ends [
+      | inl refused ↦ refused_may status v w refused.why
+      | inr exported ↦ printed_may before _ status now v w exported.prints write
+    ]
+
 memory_may : (asked : Asked) (v w : Outside) → MayEnd asked statuses.NoMemory v w
 memory_may session v w = tt
 memory_may (serve address count) v w = tt
 memory_may (format most) v w = tt
 memory_may showlog v w = tt
+memory_may export v w = tt
 
 -- ---- the words
 
@@ -84,6 +94,7 @@ IsServe session = ⊥
 IsServe (serve address count) = Unit {0}
 IsServe (format most) = ⊥
 IsServe showlog = ⊥
+IsServe export = ⊥
 
 pub serves : (address : List ℕ) (count : ℕ) (other : Asked) → Some (serve address count) ≡ Some other → IsServe other
 serves address count other is = let same : serve address count ≡ other = cc is in subst (λ (a : Asked). IsServe a) same tt
@@ -100,6 +111,7 @@ serve_ends words status v w only ends accept session asks = absurd (only session
 serve_ends words status v w only ends accept (serve address count) asks = serve_may address count status v w ends accept
 serve_ends words status v w only ends accept (format most) asks = absurd (only (format most) asks)
 serve_ends words status v w only ends accept showlog asks = absurd (only showlog asks)
+serve_ends words status v w only ends accept export asks = absurd (only export asks)
 
 pub memory_ends : (words : List (List ℕ)) (v w : Outside) → Ends words statuses.NoMemory v w
 unfolding Ends

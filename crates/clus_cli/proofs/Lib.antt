@@ -3,6 +3,7 @@ pub mod BadLogs
 pub mod DoorLaws
 pub mod DrainLaws
 pub mod EndLaws
+pub mod ExportLaws
 pub mod FormatLaws
 pub mod OpenLaws
 pub mod RoomLaws

@@ -1,5 +1,5 @@
 -- What the words ask for, and what `format` comes to.
-use Rattle.std.specs.Prelude.{◌≡◌, ℕ, ◌<◌, ◌≤◌, IsTrue, List}
+use Rattle.std.specs.Prelude.{◌≡◌, ◌⊎◌, ℕ, ◌<◌, ◌≤◌, IsTrue, List}
 use Rattle.causes.specs.Counts.{Rose}
 use Rattle.registry_defs.specs.Keys.{root_alone}
 use Rattle.registry_defs.specs.Spelling.{registry_text}
@@ -30,9 +30,16 @@ AsksSomeFormat words = (cap : ℕ) × AsksFormat words cap
 abbrev pub AsksShowlog : List (List ℕ) → Type 0
 AsksShowlog words = Asks words commands.showlog
 
+abbrev pub AsksExport : List (List ℕ) → Type 0
+AsksExport words = Asks words commands.export
+
+-- The words ask for a command on the disk.
+abbrev pub AsksOfDisk : List (List ℕ) → Type 0
+AsksOfDisk words = AsksSomeFormat words ⊎ (AsksShowlog words ⊎ AsksExport words)
+
 -- The words are no command.
 abbrev pub AsksNothing : List (List ℕ) → Type 0
-AsksNothing words = ¬ AsksSession words × ¬ AsksSomeServe words × ¬ AsksSomeFormat words × ¬ AsksShowlog words
+AsksNothing words = ¬ AsksSession words × ¬ AsksSomeServe words × ¬ AsksSomeFormat words × ¬ AsksShowlog words × ¬ AsksExport words
 
 -- Memory ran out before the command was known, and this is as it was.
 abbrev pub IsUnbegun : {A : Type 0} → Status → A → A → Type 0

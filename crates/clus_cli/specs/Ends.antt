@@ -2,7 +2,7 @@
 use Rattle.std.specs.Prelude.{◌≡◌, ℕ, ◌<◌, IsTrue, List}
 use Rattle.causes.specs.Counts.{Rose}
 use Rattle.disk_core.specs.Views.{DiskView}
-use Rattle.command_words.specs.Commands.{Asked, Asks, format, serve, session, showlog}
+use Rattle.command_words.specs.Commands.{Asked, Asks, export, format, serve, session, showlog}
 use Rattle.clus_cli.specs.declared.status.Status.{Status}
 use Rattle.clus_cli.specs.declared.status.Status.TheVariants as statuses
 use Rattle.clus_cli.specs.Showlog.{IsBadLog}
@@ -36,6 +36,16 @@ HoldsGreater v held = (1 < v.disk.current.held) × (held ≡ v.disk.current.held
 abbrev pub HoldsBadLog : Outside → ℕ → Type 0
 HoldsBadLog v place = IsTrue v.disk.tells → IsBadLog v.disk.current.seen v.disk.size place
 
+-- The statuses of a command that opens the log and prints of it.
+abbrev pub MayPrint : Status → Outside → Outside → Type 0
+MayPrint statuses.Done v w = Unit {0}
+MayPrint statuses.WriteFault v w = FailedWrite v w
+MayPrint statuses.DiskFault v w = FailedDisk v w
+MayPrint statuses.NoMemory v w = Unit {0}
+MayPrint (statuses.BadLog place) v w = HoldsBadLog v place
+MayPrint (statuses.Fenced held) v w = HoldsGreater v held
+MayPrint status v w = ⊥
+
 -- Each command's statuses, and what was before where it ends so.
 abbrev pub MayEnd : Asked → Status → Outside → Outside → Type 0
 MayEnd session statuses.Done v w = Unit {0}
@@ -49,12 +59,8 @@ MayEnd (format cap) statuses.Done v w = Unit {0}
 MayEnd (format cap) statuses.DiskFault v w = FailedDisk v w
 MayEnd (format cap) statuses.NoMemory v w = Unit {0}
 MayEnd (format cap) (statuses.Fenced held) v w = HoldsGreater v held
-MayEnd showlog statuses.Done v w = Unit {0}
-MayEnd showlog statuses.WriteFault v w = FailedWrite v w
-MayEnd showlog statuses.DiskFault v w = FailedDisk v w
-MayEnd showlog statuses.NoMemory v w = Unit {0}
-MayEnd showlog (statuses.BadLog place) v w = HoldsBadLog v place
-MayEnd showlog (statuses.Fenced held) v w = HoldsGreater v held
+MayEnd showlog status v w = MayPrint status v w
+MayEnd export status v w = MayPrint status v w
 MayEnd asked status v w = ⊥
 
 -- Whatever the words ask for, the run ends as that may end. Of words that ask for nothing this says nothing.

@@ -2,6 +2,7 @@ pub mod Commands
 pub mod Connections
 pub mod Doors
 pub mod Ends
+pub mod Export
 pub mod Pieces
 pub mod Serving
 pub mod Session

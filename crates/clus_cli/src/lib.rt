@@ -2,6 +2,8 @@
 #![tactic(auto)]
 
 mod connection;
+mod exporting;
+mod opening;
 mod piece;
 mod running;
 mod serving;

@@ -4,13 +4,15 @@ ghost use Rattle.std.specs.Prelude.{◌≡◌, ◌≢◌, ◌<◌, ◌≤◌, �
 ghost use Rattle.causes.specs.Counts.{Rose};
 ghost use Rattle.edge_io.specs.Visits.{Tells};
 ghost use Rattle.command_words.specs.Commands.{IsCap};
-ghost use Rattle.clus_cli.specs.Commands.{AsksSession, AsksServe, AsksSomeServe, AsksFormat, AsksSomeFormat, AsksShowlog, AsksNothing, FormatRuns, IsUnbegun};
+ghost use Rattle.clus_cli.specs.Commands.{AsksSession, AsksServe, AsksSomeServe, AsksFormat, AsksSomeFormat, AsksShowlog, AsksExport, AsksOfDisk, AsksNothing, FormatRuns, IsUnbegun};
 ghost use Rattle.clus_cli.specs.Ends.{Ends, outside};
+ghost use Rattle.clus_cli.specs.Export.{ExportRuns};
 ghost use Rattle.clus_cli.specs.Serving.{Serves};
 ghost use Rattle.clus_cli.specs.Session.{SessionEnds, Writes};
 ghost use Rattle.clus_cli.specs.Showlog.{ShowRuns};
 
 use crate::connection::{NODE, drain};
+use crate::exporting::export_log;
 use crate::piece::{Taken, take_piece};
 use crate::serving::serve;
 use crate::showing::show_log;
@@ -30,8 +32,8 @@ use std::alloc::{AllocError, Global};
 /// `session` reads one recorded client stream, piece by piece, and writes the answers to the items of
 /// each piece before it reads the next. `serve ADDR COUNT` does so for COUNT connections of the door at
 /// most, one after another; they share one registry. `format CAP` makes an empty log for a registry of
-/// at most CAP bytes, also over an old log. `showlog` prints the log. Where memory runs out before the
-/// command is known, nothing is touched.
+/// at most CAP bytes, also over an old log. `showlog` prints the log, and `export` its registry as text.
+/// Where memory runs out before the command is known, nothing is touched.
 pub fn run<S: Source, K: Sink, D: Disk, G: Door>(
     alloc: Global,
     words: &[String],
@@ -52,20 +54,22 @@ pub fn run<S: Source, K: Sink, D: Disk, G: Door>(
     ensures showlog { AsksShowlog (map string_bytes words.now) →
         ShowRuns (D.view disk.old) (K.written output.old) result (D.view disk.new) (K.written output.new)
         ⊎ (IsUnbegun result (D.view disk.old) (D.view disk.new) × (K.written output.new ≡ K.written output.old)) }
+    ensures export { AsksExport (map string_bytes words.now) →
+        ExportRuns (D.view disk.old) (K.written output.old) result (D.view disk.new) (K.written output.new)
+        ⊎ (IsUnbegun result (D.view disk.old) (D.view disk.new) × (K.written output.new ≡ K.written output.old)) }
     ensures usage { result ≡ Status.Usage → AsksNothing (map string_bytes words.now) }
     ensures nothing { AsksNothing (map string_bytes words.now) → (result ≡ Status.Usage) ⊎ (result ≡ Status.NoMemory) }
     ensures unread { ¬ AsksSession (map string_bytes words.now) → S.left input.new ≡ S.left input.old }
-    ensures silent { ¬ AsksSession (map string_bytes words.now) → ¬ AsksShowlog (map string_bytes words.now) → K.written output.new ≡ K.written output.old }
-    ensures untouched { ¬ AsksSomeFormat (map string_bytes words.now) → ¬ AsksShowlog (map string_bytes words.now) → D.view disk.new ≡ D.view disk.old }
+    ensures silent { ¬ AsksSession (map string_bytes words.now) → ¬ AsksShowlog (map string_bytes words.now) → ¬ AsksExport (map string_bytes words.now) → K.written output.new ≡ K.written output.old }
+    ensures untouched { ¬ AsksOfDisk (map string_bytes words.now) → D.view disk.new ≡ D.view disk.old }
     ensures unvisited { ¬ AsksSomeServe (map string_bytes words.now) → (G.visits door.new ≡ G.visits door.old) × (G.faults door.new ≡ G.faults door.old) }
     ensures read { AsksSession (map string_bytes words.now) → result ≡ Status.ReadFault → Rose (S.faults input.old) (S.faults input.new) }
     ensures accept { AsksSomeServe (map string_bytes words.now) → result ≡ Status.ReadFault → Rose (G.faults door.old).accept (G.faults door.new).accept }
     ensures write { result ≡ Status.WriteFault → Rose (K.faults output.old) (K.faults output.new) }
     ensures disk { result ≡ Status.DiskFault → Rose (D.view disk.old).faults (D.view disk.new).faults }
     ensures fenced { (held : ℕ) → result ≡ Status.Fenced held →
-        (AsksSomeFormat (map string_bytes words.now) ⊎ AsksShowlog (map string_bytes words.now))
-        × (1 < (D.view disk.old).current.held) × (held ≡ (D.view disk.old).current.held) }
-    ensures fences { AsksSomeFormat (map string_bytes words.now) ⊎ AsksShowlog (map string_bytes words.now) → 1 < (D.view disk.old).current.held →
+        AsksOfDisk (map string_bytes words.now) × (1 < (D.view disk.old).current.held) × (held ≡ (D.view disk.old).current.held) }
+    ensures fences { AsksOfDisk (map string_bytes words.now) → 1 < (D.view disk.old).current.held →
         (result ≡ Status.Fenced ((D.view disk.old).current.held)) ⊎ IsUnbegun result (D.view disk.old) (D.view disk.new) }
 {
     match command_of(alloc, words) {
@@ -74,6 +78,7 @@ pub fn run<S: Source, K: Sink, D: Disk, G: Door>(
             Command::Serve { count, .. } => serve(alloc, door, count),
             Command::Format { cap } => format_log(disk, cap),
             Command::Showlog => show_log(alloc, output, disk),
+            Command::Export => export_log(alloc, output, disk),
         },
         Ok(None) => Status::Usage,
         Err(AllocError) => Status::NoMemory,

@@ -1,20 +1,16 @@
 //! The command `showlog`: the log of the disk as text.
 
-ghost use Rattle.std.specs.Prelude.{◌≡◌, ◌+◌, ◌≤◌, ℕ, length, IfOk, IfErr, IsTrue, string_bytes};
+ghost use Rattle.std.specs.Prelude.{◌≡◌, ◌+◌, ◌≤◌, ℕ, length, IfOk, IfErr, string_bytes};
 ghost use Rattle.causes.specs.Counts.{Rose};
 ghost use Rattle.quorum_log.specs.Layout.{most_records};
-ghost use Rattle.quorum_log.specs.Logs.{IsWithinLimits};
-ghost use Rattle.clus_cli.specs.Showlog.{IsFound, IsPrinted, Refuses, ShowRuns, count_text, form_text, lines_of, log_line, record_line, record_lines};
+ghost use Rattle.clus_cli.specs.Showlog.{IsPrinted, ShowRuns, count_text, form_text, lines_of, log_line, record_line, record_lines};
 
+use crate::opening::open_log;
 use crate::status::Status;
 use disk_core::Disk;
 use edge_io::{Failed, Sink, write_whole};
-use log_contents::{ContentsFault, decode_contents};
-use quorum_log::{Found, FoundRecord, Log, OpenFault};
+use quorum_log::{Found, FoundRecord};
 use std::alloc::{AllocError, Global};
-
-/// The fencing token of a command that runs alone.
-const CLAIM: u32 = 1;
 
 /// Opens the log of the disk and prints it, once all of it is decoded.
 pub(crate) fn show_log<K: Sink, D: Disk>(alloc: Global, output: &mut K, disk: &mut D) -> Status
@@ -22,26 +18,14 @@ pub(crate) fn show_log<K: Sink, D: Disk>(alloc: Global, output: &mut K, disk: &m
     ensures runs { ShowRuns (D.view disk.old) (K.written output.old) result (D.view disk.new) (K.written output.new) }
     ensures cause { result ≡ Status.WriteFault → Rose (K.faults output.old) (K.faults output.new) }
 {
-    let found = match open_log(alloc, disk) {
-        Ok(found) => found,
+    let opened = match open_log(alloc, disk) {
+        Ok(opened) => opened,
         Err(status) => return status,
     };
-    match print_log(alloc, output, &found) {
+    match print_log(alloc, output, &opened.found) {
         Ok(()) => Status::Done,
         Err(status) => status,
     }
-}
-
-/// The log of the disk, whose contents decode.
-fn open_log<D: Disk>(alloc: Global, disk: &mut D) -> Result<Found, Status>
-    requires disk_size { 64 ≤ (D.view disk.old).size }
-    ensures found { IfOk result (λ x. IsFound (D.view disk.old) x (D.view disk.new)) }
-    ensures refused { IfErr result (λ status. Refuses (D.view disk.old) status (D.view disk.new)) }
-    ensures unchanged { IsTrue (D.view disk.old).tells → (D.view disk.new).current.seen ≡ (D.view disk.old).current.seen }
-{
-    let (_, found) = Log::open(alloc, disk, CLAIM)?;
-    decode_contents(alloc, &found)?;
-    Ok(found)
 }
 
 /// Prints the log, line by line.
@@ -116,35 +100,6 @@ fn line_of(alloc: Global, place: u64, bytes: &[u8]) -> Result<String, AllocError
 {
     let text = hex::encode(alloc, bytes)?;
     format!(in alloc; "record {place} {text}\n")
-}
-
-impl From<OpenFault> for Status {
-    ghost use Rattle.clus_cli.specs.Showlog.{open_status};
-
-    ghost from_gives = { λ fault gives. gives ≡ open_status fault };
-
-    fn from(fault: OpenFault) -> Status {
-        match fault {
-            OpenFault::Failed => Status::DiskFault,
-            OpenFault::Fenced { held } => Status::Fenced { held },
-            OpenFault::Blank => Status::BadLog { place: 0 },
-            OpenFault::BadImage { place } => Status::BadLog { place },
-            OpenFault::Memory => Status::NoMemory,
-        }
-    }
-}
-
-impl From<ContentsFault> for Status {
-    ghost use Rattle.clus_cli.specs.Showlog.{contents_status};
-
-    ghost from_gives = { λ fault gives. gives ≡ contents_status fault };
-
-    fn from(fault: ContentsFault) -> Status {
-        match fault {
-            ContentsFault::Bad { place } => Status::BadLog { place },
-            ContentsFault::Memory => Status::NoMemory,
-        }
-    }
 }
 
 impl From<AllocError> for Status {

@@ -3,7 +3,7 @@ use Rattle.std.proofs.Common.{◌≡◌, ◌<◌, ◌^◌, ℕ, zero, suc, List,
 use Rattle.std.specs.Fmt.{decimal}
 use Rattle.std.specs.List.{All}
 use Rattle.std.proofs.lemmas.Fmt.{first_decimal}
-use Rattle.command_words.specs.Commands.{Asked, Asks, Says, format, serve, session, showlog}
+use Rattle.command_words.specs.Commands.{Asked, Asks, Says, export, format, serve, session, showlog}
 use Rattle.command_words.specs.Forms.{HasForm, IsPlain, Texts, words_of}
 use Rattle.command_words.specs.Forms as texts
 use Rattle.command_words.proofs.FormLaws.{PlainEach}
@@ -13,6 +13,7 @@ texts_for session = texts.session
 texts_for (serve address count) = texts.serve address (decimal count)
 texts_for (format cap) = texts.format (decimal cap)
 texts_for showlog = texts.showlog
+texts_for export = texts.export
 
 all_plain : (words : List (List ℕ)) → PlainEach words → All IsPlain words
 all_plain [] plain k d inside = absurd (omega (arith, inside))
@@ -27,6 +28,7 @@ asked_form words session asks = asks
 asked_form words (serve address count) asks = asks.0
 asked_form words (format cap) asks = asks.0
 asked_form words showlog asks = asks
+asked_form words export asks = asks
 
 asked_plain : (words : List (List ℕ)) (asked : Asked) → Asks words asked → PlainEach (words_of (texts_for asked))
 asked_plain words session asks = (λ dash. absurd (omega (arith, dash)), tt)
@@ -34,6 +36,7 @@ asked_plain words (serve address count) asks =
     (λ dash. absurd (omega (arith, dash)), (asks.1, (decimal_plain count (omega (arith, asks.2)) (omega (arith, asks.2)), tt)))
 asked_plain words (format cap) asks = (λ dash. absurd (omega (arith, dash)), (decimal_plain cap (omega (arith, asks.1)) (omega (arith, asks.1)), tt))
 asked_plain words showlog asks = (λ dash. absurd (omega (arith, dash)), tt)
+asked_plain words export asks = (λ dash. absurd (omega (arith, dash)), tt)
 
 pub has_form : (words : List (List ℕ)) (asked : Asked) → Asks words asked → HasForm words (texts_for asked)
 has_form words asked asks =
@@ -45,3 +48,4 @@ says words session asks = refl
 says words (serve address count) asks = (refl, asks.2)
 says words (format cap) asks = (refl, asks.1)
 says words showlog asks = refl
+says words export asks = refl

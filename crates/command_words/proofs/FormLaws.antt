@@ -10,7 +10,7 @@ use Rattle.clap.specs.declared.error.kind.ErrorKind.{ErrorKind}
 use Rattle.clap.specs.declared.error.kind.ErrorKind.TheVariants.{MissingSubcommand}
 use Rattle.clap.specs.Walk.{answers_to, idle, nothing_held, subcommand_met}
 use Rattle.clap.proofs.OnLiterals.{clap_on_literals}
-use Rattle.command_words.specs.Forms.{HasForm, IsPlain, Texts, format, serve, session, showlog, words_of}
+use Rattle.command_words.specs.Forms.{HasForm, IsPlain, Texts, export, format, serve, session, showlog, words_of}
 use Rattle.command_words.specs.Grammar.{format_rules, program, serve_rules, texts_by, texts_in}
 use Rattle.command_words.proofs.Arguments.{leaf, none_0, none_0_rows, none_more, one_0, one_1, one_1_rows, one_more}
 use Rattle.command_words.proofs.Arguments.{two_0, two_1, two_2, two_2_rows, two_more}
@@ -43,6 +43,7 @@ taken_form session plain = fault_at (codes "session") [] [] [] refl refl (none_0
 taken_form (serve w v) plain = fault_at (codes "serve") serve_rules (w ∷ v ∷ []) [] refl refl (two_2 (codes "serve") (codes "address") (codes "count") w v refl plain.1.0 plain.1.1.0)
 taken_form (format w) plain = fault_at (codes "format") format_rules (w ∷ []) [] refl refl (one_1 (codes "format") (codes "cap") w plain.1.0)
 taken_form showlog plain = fault_at (codes "showlog") [] [] [] refl refl (none_0 (codes "showlog"))
+taken_form export plain = fault_at (codes "export") [] [] [] refl refl (none_0 (codes "export"))
 
 pub taken : (words : List Text) (texts : Texts) → HasForm words texts → fault_of program words ≡ []
 taken words texts has = ap (fault_of program) has.same ∙ taken_form texts (each_plain (words_of texts) (subst (All IsPlain) has.same has.plain))
@@ -52,6 +53,7 @@ read_form session plain = read_at (codes "session") [] [] _ refl refl (none_0_ro
 read_form (serve w v) plain = read_at (codes "serve") serve_rules (w ∷ v ∷ []) _ refl refl (two_2_rows (codes "serve") (codes "address") (codes "count") w v refl plain.1.0 plain.1.1.0)
 read_form (format w) plain = read_at (codes "format") format_rules (w ∷ []) _ refl refl (one_1_rows (codes "format") (codes "cap") w plain.1.0)
 read_form showlog plain = read_at (codes "showlog") [] [] _ refl refl (none_0_rows (codes "showlog"))
+read_form export plain = read_at (codes "export") [] [] _ refl refl (none_0_rows (codes "export"))
 
 pub read_words : (words : List Text) (texts : Texts) → HasForm words texts → texts_in (subcommand_of program words) ≡ Some texts
 read_words words texts has = ap (λ (ws : List Text). texts_in (subcommand_of program ws)) has.same ∙ read_form texts (each_plain (words_of texts) (subst (All IsPlain) has.same has.plain))
@@ -88,16 +90,22 @@ by_showlog : Behind (codes "showlog")
 by_showlog [] plain none = formed showlog plain
 by_showlog (w ∷ rest) plain none = refused _ _ _ (fault_at (codes "showlog") [] (w ∷ rest) _ refl refl (none_more (codes "showlog") w rest plain.1.0)) none
 
+by_export : Behind (codes "export")
+by_export [] plain none = formed export plain
+by_export (w ∷ rest) plain none = refused _ _ _ (fault_at (codes "export") [] (w ∷ rest) _ refl refl (none_more (codes "export") w rest plain.1.0)) none
+
 is_name : (name word : Text) → bytes_eq name word ≡ true → Behind name → Behind word
 is_name name word same behind = subst Behind ((bytes_eq-Decides name word).0 same) behind
 
-by_name : (word : Text) (a b c d : Bool) → bytes_eq (codes "session") word ≡ a → bytes_eq (codes "serve") word ≡ b → bytes_eq (codes "format") word ≡ c → bytes_eq (codes "showlog") word ≡ d → Behind word
-by_name word true b c d is_a is_b is_c is_d = is_name (codes "session") word is_a by_session
-by_name word false true c d is_a is_b is_c is_d = is_name (codes "serve") word is_b by_serve
-by_name word false false true d is_a is_b is_c is_d = is_name (codes "format") word is_c by_format
-by_name word false false false true is_a is_b is_c is_d = is_name (codes "showlog") word is_d by_showlog
-by_name word false false false false is_a is_b is_c is_d = λ args plain none.
-    let no_name : subcommand_met names idle word ≡ None = rw (is_a, is_b, is_c, is_d) refl in
+by_name : (word : Text) (a b c d e : Bool) → bytes_eq (codes "session") word ≡ a → bytes_eq (codes "serve") word ≡ b → bytes_eq (codes "format") word ≡ c → bytes_eq (codes "showlog") word ≡ d → bytes_eq (codes "export") word ≡ e
+    → Behind word
+by_name word true b c d e is_a is_b is_c is_d is_e = is_name (codes "session") word is_a by_session
+by_name word false true c d e is_a is_b is_c is_d is_e = is_name (codes "serve") word is_b by_serve
+by_name word false false true d e is_a is_b is_c is_d is_e = is_name (codes "format") word is_c by_format
+by_name word false false false true e is_a is_b is_c is_d is_e = is_name (codes "showlog") word is_d by_showlog
+by_name word false false false false true is_a is_b is_c is_d is_e = is_name (codes "export") word is_e by_export
+by_name word false false false false false is_a is_b is_c is_d is_e = λ args plain none.
+    let no_name : subcommand_met names idle word ≡ None = rw (is_a, is_b, is_c, is_d, is_e) refl in
     refused _ _ _ (unknown word args no_name plain.0) none
 
 no_words : fault_of program [] ≡ MissingSubcommand ∷ []
@@ -106,4 +114,4 @@ no_words = refl
 
 pub reads_back : (words : List Text) → All IsPlain words → fault_of program words ≡ [] → FormIn words
 reads_back [] plain none = refused _ _ _ no_words none
-reads_back (word ∷ args) plain none = by_name word _ _ _ _ refl refl refl refl args (each_plain (word ∷ args) plain) none
+reads_back (word ∷ args) plain none = by_name word _ _ _ _ _ refl refl refl refl refl args (each_plain (word ∷ args) plain) none

@@ -11,6 +11,7 @@ pub data Asked : Type 0 where
   serve : List ℕ → ℕ → Asked
   format : ℕ → Asked
   showlog : Asked
+  export : Asked
 
 -- The address is any word that isn't an option.
 abbrev pub IsAddress : List ℕ → Type 0
@@ -30,12 +31,14 @@ Asks words session = words ≡ codes "session" ∷ []
 Asks words (serve address count) = (words ≡ codes "serve" ∷ address ∷ decimal count ∷ []) × IsAddress address × IsCount count
 Asks words (format cap) = (words ≡ codes "format" ∷ decimal cap ∷ []) × IsCap cap
 Asks words showlog = words ≡ codes "showlog" ∷ []
+Asks words export = words ≡ codes "export" ∷ []
 
 abbrev pub asked_by : Command → Asked
 asked_by commands.Session = session
 asked_by (commands.Serve address count) = serve address.now count
 asked_by (commands.Format cap) = format cap
 asked_by commands.Showlog = showlog
+asked_by commands.Export = export
 
 -- The texts of a form say that.
 abbrev pub Says : Texts → Asked → Type 0
@@ -43,3 +46,4 @@ Says given session = given ≡ texts.session
 Says given (serve address count) = (given ≡ texts.serve address (decimal count)) × IsCount count
 Says given (format cap) = (given ≡ texts.format (decimal cap)) × IsCap cap
 Says given showlog = given ≡ texts.showlog
+Says given export = given ≡ texts.export

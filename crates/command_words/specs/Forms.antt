@@ -10,12 +10,14 @@ pub data Texts : Type 0 where
   serve : List ℕ → List ℕ → Texts
   format : List ℕ → Texts
   showlog : Texts
+  export : Texts
 
 abbrev pub words_of : Texts → List (List ℕ)
 words_of session = codes "session" ∷ []
 words_of (serve address count) = codes "serve" ∷ address ∷ count ∷ []
 words_of (format cap) = codes "format" ∷ cap ∷ []
 words_of showlog = codes "showlog" ∷ []
+words_of export = codes "export" ∷ []
 
 -- The word doesn't begin with `-`.
 abbrev pub IsPlain : List ℕ → Type 0
@@ -33,3 +35,4 @@ texts_of variants.Session = session
 texts_of (variants.Serve address count) = serve address.now count.now
 texts_of (variants.Format cap) = format cap.now
 texts_of variants.Showlog = showlog
+texts_of variants.Export = export

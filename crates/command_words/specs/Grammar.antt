@@ -4,7 +4,7 @@ use Rattle.std.specs.Prelude.{option_map, option_and_then}
 use Rattle.std.specs.Str.{bytes_eq}
 use Rattle.clap.specs.Words.{App, Row, Rule, Shape, Text, first_of, new_rule, with_subcommand}
 use Rattle.clap.specs.Simple.{new_shape}
-use Rattle.command_words.specs.Forms.{Texts, format, serve, session, showlog}
+use Rattle.command_words.specs.Forms.{Texts, export, format, serve, session, showlog}
 
 -- An argument that is needed.
 abbrev pub rule : Text → Rule
@@ -34,12 +34,15 @@ top = record {
   subs = [];
 }
 
--- The program with its first two subcommands, and with all.
+-- The program with its first two subcommands, with its first four, and with all.
 abbrev pub to_serve : App
 to_serve = with_subcommand (with_subcommand top (shape (codes "session") [])) (shape (codes "serve") serve_rules)
 
+abbrev pub to_showlog : App
+to_showlog = with_subcommand (with_subcommand to_serve (shape (codes "format") format_rules)) (shape (codes "showlog") [])
+
 abbrev pub program : App
-program = with_subcommand (with_subcommand to_serve (shape (codes "format") format_rules)) (shape (codes "showlog") [])
+program = with_subcommand to_showlog (shape (codes "export") [])
 
 -- The texts that the rows of a subcommand's matches stand for.
 abbrev pub serve_texts : Option Text → Option Text → Option Texts
@@ -51,6 +54,7 @@ texts_by name rows =
     else if bytes_eq name (codes "serve") then serve_texts (first_of (codes "address") rows) (first_of (codes "count") rows)
     else if bytes_eq name (codes "format") then option_map format (first_of (codes "cap") rows)
     else if bytes_eq name (codes "showlog") then Some showlog
+    else if bytes_eq name (codes "export") then Some export
     else None
 
 abbrev pub texts_in : Option (Text × List Row) → Option Texts

@@ -21,6 +21,8 @@ pub enum Command<'a> {
     Format { cap: u32 },
     /// `showlog`
     Showlog,
+    /// `export`
+    Export,
 }
 
 /// The command that the words ask for; none where they are the words of no command.
@@ -44,6 +46,7 @@ fn read<'a>(form: Form<'a>) -> Option<Command<'a>>
         Form::Serve { address, count } => read_serve(address, count),
         Form::Format { cap } => read_format(cap),
         Form::Showlog => Some(Command::Showlog),
+        Form::Export => Some(Command::Export),
     }
 }
 

@@ -17,6 +17,7 @@ pub(crate) enum Form<'a> {
     Serve { address: &'a str, count: &'a str },
     Format { cap: &'a str },
     Showlog,
+    Export,
 }
 
 /// The form that the words have. clap would take `-` and what begins with it in other ways, so no such
@@ -75,6 +76,7 @@ fn form_by<'a>(name: &str, given: &ArgMatches<'a>) -> Option<Form<'a>>
         "serve" => serve_form(word_for(given, "address"), word_for(given, "count")),
         "format" => format_form(word_for(given, "cap")),
         "showlog" => Some(Form::Showlog),
+        "export" => Some(Form::Export),
         _ => None,
     }
 }

@@ -3,7 +3,7 @@
 ghost use Rattle.std.specs.Prelude.{◌≡◌, ◌≢◌, ◌∷◌, [], true, false, codes, map, string_bytes, IfOk, MatchOption};
 ghost use Rattle.clap.specs.declared.builder.command.Command.TheViews.{out-Command};
 ghost use Rattle.clap.specs.Words.{app_of, fault_of, rule_of, subcommand_of, subcommand_rows_of};
-ghost use Rattle.command_words.specs.Grammar.{app, format_rules, program, rule, serve_rules, to_serve, top};
+ghost use Rattle.command_words.specs.Grammar.{app, format_rules, program, rule, serve_rules, to_serve, to_showlog, top};
 
 use clap::error::ErrorKind;
 use clap::{Arg, ArgMatches, Command};
@@ -29,6 +29,13 @@ pub(crate) fn matches_of<'a>(
 
 fn program<'a>(alloc: Global) -> Result<Command<'a>, AllocError>
     ensures { IfOk result (λ c. app_of c ≡ program) }
+{
+    to_showlog(alloc)?.subcommand(bare(alloc, "export"))
+}
+
+/// The program with its first four subcommands.
+fn to_showlog<'a>(alloc: Global) -> Result<Command<'a>, AllocError>
+    ensures { IfOk result (λ c. app_of c ≡ to_showlog) }
 {
     let format_command = format_log(alloc)?;
     to_serve(alloc)?

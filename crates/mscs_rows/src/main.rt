@@ -18,9 +18,9 @@
 //!
 //! BYTES are words: hex, `HEX*COUNT` for the same COUNT times, or `$NAME`. In the words of `run` an underscore stands
 //! for a space, and `""` for the empty word. A run prints its status with its text; what was written, in hex behind
-//! `wrote` or, where the command is `showlog`, as it is; and what each ended connection was sent, in hex behind `sent`.
-//! Each fragment has a line, behind `then` where it isn't the first; what is no whole fragment has one too. Nothing is
-//! cut. Any other line ends the program, with its number.
+//! `wrote` or, where the command is `showlog` or `export`, as it is; and what each ended connection was sent, in hex
+//! behind `sent`. Each fragment has a line, behind `then` where it isn't the first; what is no whole fragment has one
+//! too. Nothing is cut. Any other line ends the program, with its number.
 #![tactic(auto)]
 
 mod fragments;

@@ -54,7 +54,7 @@ fn tell(
 ) -> Result<String, RowFault> {
     let mut out = status_line(alloc, status)?;
     match words.first() {
-        Some(word) if word.as_str() == "showlog" => add_text(&mut out, sink.written())?,
+        Some(word) if is_text(word.as_str()) => add_text(&mut out, sink.written())?,
         _ if sink.written().is_empty() => {}
         _ => add_bytes(alloc, &mut out, "wrote", sink.written())?,
     }
@@ -62,6 +62,11 @@ fn tell(
         add_bytes(alloc, &mut out, "sent", visit.written())?;
     }
     Ok(out)
+}
+
+/// Whether the command writes text.
+fn is_text(word: &str) -> bool {
+    word == "showlog" || word == "export"
 }
 
 fn status_line(alloc: Global, status: &Status) -> Result<String, RowFault> {

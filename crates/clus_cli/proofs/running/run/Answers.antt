@@ -2,10 +2,10 @@ use Rattle.std.proofs.Common.{◌≡◌, ℕ, inl, inr, subst}
 use Rattle.edge_io.specs.Visits.{Tells}
 use Rattle.rpc_calls.specs.declared.side.Side.TheVariants.{Server}
 use Rattle.rpc_calls.proofs.HoldingLaws.{holds_nothing}
-use Rattle.command_words.specs.Commands.{format, serve, session, showlog}
+use Rattle.command_words.specs.Commands.{export, format, serve, session, showlog}
 use Rattle.clus_cli.specs.Commands.{FormatRuns}
 use Rattle.clus_cli.specs.Serving.{Serves}
-use Rattle.clus_cli.proofs.EndLaws.{command_ends, format_may, memory_ends, no_command_ends, serve_ends, serves, session_may, showlog_may}
+use Rattle.clus_cli.proofs.EndLaws.{command_ends, export_may, format_may, memory_ends, no_command_ends, serve_ends, serves, session_may, showlog_may}
 use Rattle.clus_cli.proofs.SessionLaws.{not_begun}
 use Rattle.clus_cli.proofs.running.run.Goals as goal
 
@@ -30,19 +30,24 @@ returns-in-Ok-None-clause-format g c = λ cap asks. absurd (cc (rw c.in-Ok-None.
 pub returns-in-Ok-None-clause-showlog : goal.returns-in-Ok-None-clause-showlog
 returns-in-Ok-None-clause-showlog g c = λ asks. absurd (cc (rw c.in-Ok-None.field-0-is at (c.in-Ok-None.ensures.only showlog asks)))
 
+pub returns-in-Ok-None-clause-export : goal.returns-in-Ok-None-clause-export
+returns-in-Ok-None-clause-export g c = λ asks. absurd (cc (rw c.in-Ok-None.field-0-is at (c.in-Ok-None.ensures.only export asks)))
+
 pub returns-in-Ok-None-clause-usage : goal.returns-in-Ok-None-clause-usage
 returns-in-Ok-None-clause-usage g c = λ is. (
   λ asks. absurd (cc (rw c.in-Ok-None.field-0-is at (c.in-Ok-None.ensures.only session asks))),
   λ some. absurd (cc (rw c.in-Ok-None.field-0-is at (c.in-Ok-None.ensures.only (serve some.1 some.0) some.2))),
   λ some. absurd (cc (rw c.in-Ok-None.field-0-is at (c.in-Ok-None.ensures.only (format some.0) some.1))),
   λ asks. absurd (cc (rw c.in-Ok-None.field-0-is at (c.in-Ok-None.ensures.only showlog asks))),
+  λ asks. absurd (cc (rw c.in-Ok-None.field-0-is at (c.in-Ok-None.ensures.only export asks))),
 )
 
 pub returns-in-Ok-None-clause-fences : goal.returns-in-Ok-None-clause-fences
 returns-in-Ok-None-clause-fences g c = λ asks held.
     elim asks [
       | inl some ↦ absurd (cc (rw c.in-Ok-None.field-0-is at (c.in-Ok-None.ensures.only (format some.0) some.1)))
-      | inr shows ↦ absurd (cc (rw c.in-Ok-None.field-0-is at (c.in-Ok-None.ensures.only showlog shows)))
+      | inr (inl shows) ↦ absurd (cc (rw c.in-Ok-None.field-0-is at (c.in-Ok-None.ensures.only showlog shows)))
+      | inr (inr exports) ↦ absurd (cc (rw c.in-Ok-None.field-0-is at (c.in-Ok-None.ensures.only export exports)))
     ]
 
 pub returns-in-Err-clause-session : goal.returns-in-Err-clause-session
@@ -70,6 +75,11 @@ pub returns-in-Showlog-clause-ends : goal.returns-in-Showlog-clause-ends
 returns-in-Showlog-clause-ends g c =
     command_ends _ showlog c.show_log.result _ _ (λ other asks. rw (c.in-Ok-Some.field-0-is, c.in-Showlog.is) at (c.in-Ok-Some.ensures.only other asks))
     (showlog_may (g.K.Sink.written c.args.output.now) (g.K.Sink.written c.show_log.new.output) c.show_log.result _ _ c.show_log.ensures.runs c.show_log.ensures.cause)
+
+pub returns-in-Export-clause-ends : goal.returns-in-Export-clause-ends
+returns-in-Export-clause-ends g c =
+    command_ends _ export c.export_log.result _ _ (λ other asks. rw (c.in-Ok-Some.field-0-is, c.in-Export.is) at (c.in-Ok-Some.ensures.only other asks))
+    (export_may (g.K.Sink.written c.args.output.now) (g.K.Sink.written c.export_log.new.output) c.export_log.result _ _ c.export_log.ensures.runs c.export_log.ensures.cause)
 
 pub returns-in-Ok-None-clause-ends : goal.returns-in-Ok-None-clause-ends
 returns-in-Ok-None-clause-ends g c = no_command_ends _ _ _ _ (λ asked asks. absurd (cc (rw c.in-Ok-None.field-0-is at (c.in-Ok-None.ensures.only asked asks))))

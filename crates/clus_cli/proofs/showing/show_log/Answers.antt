@@ -18,19 +18,19 @@ returns-in-Err-clause-runs g c =
 
 pub returns-in-Ok-print_log-clause-runs : goal.returns-in-Ok-print_log-clause-runs
 returns-in-Ok-print_log-clause-runs g c =
-    let found = c.in-Ok.ensures.found in
+    let found = c.in-Ok.ensures.found.found in
     record {
-      ends = inr (record { held_before = found.held_before; held = found.held; log = c.in-Ok.found; read = found.read; good = found.good; prints = c.in-Ok-print_log.ensures.prints });
-      exact = λ told place bad. shown_at (g.D.Disk.view c.args.disk.now) c.in-Ok.found place told (g.met.D.Disk.whole c.args.disk.now told) found.good bad;
+      ends = inr (record { held_before = found.held_before; held = found.held; log = c.in-Ok.opened.found; read = found.read; good = found.good; prints = c.in-Ok-print_log.ensures.prints });
+      exact = λ told place bad. shown_at (g.D.Disk.view c.args.disk.now) c.in-Ok.opened.found place told (g.met.D.Disk.whole c.args.disk.now told) found.good bad;
       unchanged = c.in-Ok.ensures.unchanged;
     }
 
 pub returns-clause-runs : goal.returns-clause-runs
 returns-clause-runs g c =
-    let found = c.in-Ok.ensures.found in
-    let prints = printed_err (g.K.Sink.written c.args.output.now) (g.K.Sink.written c.print_log.new.output) (lines_of c.in-Ok.found) c.in-Err-print_log.status c.in-Err-print_log.ensures.prints in
+    let found = c.in-Ok.ensures.found.found in
+    let prints = printed_err (g.K.Sink.written c.args.output.now) (g.K.Sink.written c.print_log.new.output) (lines_of c.in-Ok.opened.found) c.in-Err-print_log.status c.in-Err-print_log.ensures.prints in
     record {
-      ends = inr (record { held_before = found.held_before; held = found.held; log = c.in-Ok.found; read = found.read; good = found.good; prints = prints });
-      exact = λ told place bad. shown_at (g.D.Disk.view c.args.disk.now) c.in-Ok.found place told (g.met.D.Disk.whole c.args.disk.now told) found.good bad;
+      ends = inr (record { held_before = found.held_before; held = found.held; log = c.in-Ok.opened.found; read = found.read; good = found.good; prints = prints });
+      exact = λ told place bad. shown_at (g.D.Disk.view c.args.disk.now) c.in-Ok.opened.found place told (g.met.D.Disk.whole c.args.disk.now told) found.good bad;
       unchanged = c.in-Ok.ensures.unchanged;
     }
