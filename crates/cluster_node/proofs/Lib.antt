@@ -1,0 +1,11 @@
+pub mod Acknowledging
+pub mod Behind
+pub mod Changed
+pub mod ForClients
+pub mod JoinTurns
+pub mod MemberStepping
+pub mod ServedKeys
+pub mod StayingInStep
+pub mod Stepping
+pub mod Ticking
+pub mod Turns
