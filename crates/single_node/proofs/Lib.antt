@@ -1,0 +1,9 @@
+pub mod Agreeing
+pub mod Pieces
+pub mod Falling
+pub mod Going
+pub mod Hearing
+pub mod Halting
+pub mod Opens
+pub mod Connecting
+pub mod Delivery
