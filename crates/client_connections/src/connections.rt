@@ -1,6 +1,7 @@
 //! The connections of a node.
 
 ghost use Rattle.std.specs.Prelude.{◌≡◌, ◌≤◌, [], IfOk, IfSome, length, None, OnOk, is_some, option_map};
+ghost use Rattle.std.specs.Map.{keys_of};
 ghost use Rattle.update_records.specs.Validity.{IsValid};
 ghost use Rattle.registry_defs.specs.Contents.{keys_in};
 ghost use Rattle.client_connections.specs.Clients.{client_at, closings, connected, hung_up, left_if_open, most_clients, no_clients, without_any};
@@ -83,6 +84,13 @@ impl Connections {
         ensures { result ≡ is_some (client_at conn self.now) }
     {
         self.conns.contains_key(&conn)
+    }
+
+    /// The numbers of those that are open, ascending.
+    pub fn numbers(&self) -> Result<Vec<u32>, AllocError>
+        ensures { IfOk result (λ numbers. numbers.items ≡ keys_of self.now.conns) }
+    {
+        self.conns.keys().copied().collect(self.shared.alloc)
     }
 
     /// How many connections are open.

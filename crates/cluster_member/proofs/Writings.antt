@@ -21,7 +21,7 @@ use Rattle.single_rules.specs.Logging.{entry_of, no_entry}
 use Rattle.registry_machine.specs.Machine.{registry_machine}
 use Rattle.record_log.specs.declared.fault.AddFault.{AddFault}
 use Rattle.record_log.specs.declared.fault.AddFault.TheVariants as add
-use Rattle.record_log.specs.Adding.{Adds, Appends, Checkpoints, CheckpointsTo, is_due}
+use Rattle.record_log.specs.Adding.{Adds, Appends, Checkpoints, CheckpointsTo, IsSound, is_due}
 use Rattle.member_rules.specs.declared.told.Told.{Told}
 use Rattle.member_rules.specs.Steps.{GoesOn}
 use Rattle.cluster_member.specs.declared.stop.Stop.{Stop}
@@ -113,10 +113,10 @@ no_fault log fault r is out = cc
 
 pub written : (v : DiskView) (x y : MemberState) (e : Entry) (old log : LogValue) (told : Told) (w : DiskView)
     → x.log ≡ Some old → old.claim ≡ number_of x.rules
-    → Adds (is_due old (length (record_text e))) old (state_bytes x) (last_bytes x) (record_text e) v (Ok log) w
+    → Adds (is_due old (length (record_text e))) old (state_bytes x) (last_bytes x) (record_text e) v (Ok log) w → IsSound e (Ok log)
     → GoesOn (tells (has_logged x.rules e) e.id.node (Granted e)) y.rules told → y.log ≡ Some log
     → Writes v x e (Ok told) y w
-written v x y e old log told w had claim adds goes kept =
+written v x y e old log told w had claim adds sound goes kept =
     let says = at_claim old.claim (number_of x.rules) v.current.held (Ok log) claim
     (adds_says old (state_bytes x) (last_bytes x) (record_text e) v w (is_due old (length (record_text e))) (Ok log) adds) in
     record {
@@ -124,6 +124,7 @@ written v x y e old log told w had claim adds goes kept =
       added = Ok log;
       had = had;
       adds = adds;
+      sound = sound;
       comes = subst (λ (o : Out registry_machine). GoesOn o y.rules told) (sym (open_writes x.rules e v.current.held says)) goes;
       memory = λ out. absurd (cc);
       kept = kept;
@@ -131,10 +132,10 @@ written v x y e old log told w had claim adds goes kept =
 
 -- Behind it memory ran out.
 pub written_lacks : (v : DiskView) (x y : MemberState) (e : Entry) (old log : LogValue) (s : Stop) (w : DiskView)
-    → x.log ≡ Some old → Adds (is_due old (length (record_text e))) old (state_bytes x) (last_bytes x) (record_text e) v (Ok log) w → s ≡ stop.Memory
+    → x.log ≡ Some old → Adds (is_due old (length (record_text e))) old (state_bytes x) (last_bytes x) (record_text e) v (Ok log) w → IsSound e (Ok log) → s ≡ stop.Memory
     → Writes v x e (Err s) y w
-written_lacks v x y e old log s w had adds is =
-    subst (λ (q : Stop). Writes v x e (Err q) y w) (sym is) (record { old = old; added = Ok log; had = had; adds = adds; comes = tt; memory = λ out. absurd (cc); kept = tt })
+written_lacks v x y e old log s w had adds sound is =
+    subst (λ (q : Stop). Writes v x e (Err q) y w) (sym is) (record { old = old; added = Ok log; had = had; adds = adds; sound = sound; comes = tt; memory = λ out. absurd (cc); kept = tt })
 
 lacks : (fault : AddFault) (r : Result LogValue AddFault) → r ≡ Err fault → r ≡ Err add.Memory → stop_of fault ≡ stop.Memory
 lacks (add.Checkpoint below) r is out = cc
@@ -143,10 +144,10 @@ lacks add.Memory r is out = refl
 
 pub halted : (v : DiskView) (x y : MemberState) (e : Entry) (old : LogValue) (fault : AddFault) (s : Stop) (w : DiskView)
     → x.log ≡ Some old → old.claim ≡ number_of x.rules
-    → Adds (is_due old (length (record_text e))) old (state_bytes x) (last_bytes x) (record_text e) v (Err fault) w
+    → Adds (is_due old (length (record_text e))) old (state_bytes x) (last_bytes x) (record_text e) v (Err fault) w → IsSound e (Err fault)
     → s ≡ stop_of fault
     → Writes v x e (Err s) y w
-halted v x y e old fault s w had claim adds is =
+halted v x y e old fault s w had claim adds sound is =
     let none : Result LogValue AddFault = Err fault in
     let says = at_claim old.claim (number_of x.rules) v.current.held none claim
     (adds_says old (state_bytes x) (last_bytes x) (record_text e) v w (is_due old (length (record_text e))) none adds) in
@@ -155,6 +156,7 @@ halted v x y e old fault s w had claim adds is =
       added = none;
       had = had;
       adds = adds;
+      sound = sound;
       comes = fault_halts x.rules y.rules e v.current.held fault says;
       memory = λ out. ap stopped (lacks fault none refl out);
       kept = tt;
@@ -194,7 +196,7 @@ module _ (v : DiskView) (x : MemberState) (from req a b : ℕ) (update : Update)
       let written : Writes v x (entry_for x.rules a b update) r y w = subst (λ (k : Entry). Writes v x k r y w) entry h in
       record {
         added = Some written.added;
-        logs = subst (λ (k : Option Entry). Logs k x v (Some written.added) w) (sym (log_of_ask v x from req update (decision.Write a b) is)) (written.old, written.had, written.adds);
+        logs = subst (λ (k : Option Entry). Logs k x v (Some written.added) w) (sym (log_of_ask v x from req update (decision.Write a b) is)) (written.old, written.had, written.adds, written.sound);
         comes = subst (λ (l : Logged registry_machine). Comes l.out r y.rules) (sym (out_of_ask v x from req update (decision.Write a b) is v.current.held (answer_of written.added))) written.comes;
         memory = λ out. written.memory (cc);
         kept = written.kept;
@@ -204,7 +206,7 @@ module _ (v : DiskView) (x : MemberState) (from req a b : ℕ) (update : Update)
   lacks_with : (s : Stop) (old : LogValue) → x.log ≡ Some old → s ≡ stop.Memory → Asks v x from req update (Err s) x v
   lacks_with s old had lack = subst (λ (q : Stop). Asks v x from req update (Err q) x v) (sym lack) (record {
     added = Some (Err add.Memory);
-    logs = subst (λ (k : Option Entry). Logs k x v (Some (Err add.Memory)) v) (sym (log_of_ask v x from req update (decision.Write a b) is)) (old, had, refl);
+    logs = subst (λ (k : Option Entry). Logs k x v (Some (Err add.Memory)) v) (sym (log_of_ask v x from req update (decision.Write a b) is)) (old, had, refl, tt);
     comes = tt;
     memory = λ out. refl;
     kept = tt;

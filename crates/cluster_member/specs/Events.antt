@@ -26,7 +26,7 @@ use Rattle.record_log.specs.declared.fault.RecordFault.{RecordFault}
 use Rattle.record_log.specs.declared.fault.RecordFault.TheVariants as records
 use Rattle.record_log.specs.declared.fault.AddFault.{AddFault}
 use Rattle.record_log.specs.declared.fault.AddFault.TheVariants as add
-use Rattle.record_log.specs.Adding.{Adds, CheckpointsTo, is_due}
+use Rattle.record_log.specs.Adding.{Adds, CheckpointsTo, IsSound, is_due}
 use Rattle.record_log.specs.Opening.{ComesOf, OpensTo}
 use Rattle.cluster_member.specs.declared.stop.Stop.{Stop}
 use Rattle.cluster_member.specs.declared.stop.Stop.TheVariants as stop
@@ -83,6 +83,7 @@ pub record Writes (v : DiskView) (x : MemberState) (e : Entry) (r : Result Told 
   pub added : Result LogValue AddFault
   pub had : x.log ≡ Some old
   pub adds : Adds (is_due old (length (record_text e))) old (state_bytes x) (last_bytes x) (record_text e) v added w
+  pub sound : IsSound e added
   pub comes : Comes (writes x.rules e v.current.held (answer_of added)).out r y.rules
   pub memory : added ≡ Err add.Memory → r ≡ Err stop.Memory
   pub kept : OnOk r (y.log ≡ log_after added)

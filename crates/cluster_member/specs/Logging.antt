@@ -16,7 +16,7 @@ use Rattle.record_log.specs.declared.fault.AddFault.{AddFault}
 use Rattle.record_log.specs.declared.fault.AddFault.TheVariants.{Append, Checkpoint, Memory}
 use Rattle.record_log.specs.declared.fault.RecordFault.{RecordFault}
 use Rattle.record_log.specs.declared.fault.RecordFault.TheVariants as records
-use Rattle.record_log.specs.Adding.{Adds, CheckpointsTo, is_due}
+use Rattle.record_log.specs.Adding.{Adds, CheckpointsTo, IsSound, is_due}
 use Rattle.cluster_rules.specs.Nodes.{Replica}
 use Rattle.registry_machine.specs.Machine.{registry_machine}
 use Rattle.cluster_member.specs.States.{MemberState}
@@ -68,12 +68,13 @@ state_bytes x = replica_bytes x.rules.replica
 abbrev pub last_bytes : MemberState → List ℕ
 last_bytes x = last_text x.rules.last
 
--- A record is added to the log, which answers; where there is none to add, no call is made.
+-- A record is added to the log, which answers; where there is none to add, no call is made. What was encoded is a record, unless memory ran out.
 abbrev pub Logs : Option Entry → MemberState → DiskView → Option (Result LogValue AddFault) → DiskView → Type 0
 Logs None x v None w = w ≡ v
 Logs (Some e) x v (Some added) w =
     (old : LogValue) × (x.log ≡ Some old)
     × Adds (is_due old (length (record_text e))) old (state_bytes x) (last_bytes x) (record_text e) v added w
+    × IsSound e added
 Logs entry x v added w = ⊥
 
 abbrev pub is_written : Result LogValue AddFault → Bool

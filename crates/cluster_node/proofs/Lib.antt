@@ -3,6 +3,8 @@ pub mod Behind
 pub mod Changed
 pub mod ForClients
 pub mod JoinTurns
+pub mod KeepingNumbers
+pub mod KeepingRoom
 pub mod MemberStepping
 pub mod ServedKeys
 pub mod StayingInStep

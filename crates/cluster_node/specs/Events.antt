@@ -11,7 +11,7 @@ use Rattle.cluster_member.specs.declared.stop.Stop.{Stop}
 use Rattle.member_rules.specs.declared.told.Told.{Told}
 use Rattle.cluster_member.specs.Events.{Installs, Receives, WritesCheckpoint}
 use Rattle.cluster_member.specs.States.{MemberState}
-use Rattle.client_connections.specs.Clients.{Clients, client_at, connected, hung_up}
+use Rattle.client_connections.specs.Clients.{Clients, client_at, closings, connected, hung_up}
 use Rattle.client_connections.specs.Finishing.{batched}
 use Rattle.cluster_node.specs.Acting.{Follows, HearsPiece, Submits}
 use Rattle.cluster_node.specs.States.{RunningNode, runs}
@@ -68,6 +68,12 @@ abbrev pub HangsUp : ℕ → Option RunningNode → Option RunningNode → List 
 HangsUp conn None None effects = effects ≡ []
 HangsUp conn (Some x) (Some y) effects = ClientsTell x (hung_up conn (client_at conn x.clients) x.clients) y effects
 HangsUp conn x y effects = ⊥
+
+-- Each connection is closed, and the node runs no longer.
+abbrev pub Dies : Option RunningNode → Option RunningNode → List Effect → Type 0
+Dies None None effects = effects ≡ []
+Dies (Some x) None effects = effects ≡ closings x.clients.conns
+Dies x y effects = ⊥
 
 abbrev pub HearsBytes : ℕ → List ℕ → Option RunningNode → Option RunningNode → List Effect → Type 0
 HearsBytes conn piece None None effects = effects ≡ []

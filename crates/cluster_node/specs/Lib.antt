@@ -3,5 +3,7 @@ pub mod Acting
 pub mod Events
 pub mod Explained
 pub mod InStep
+pub mod Numbers
+pub mod Rooms
 pub mod States
 pub mod Steps

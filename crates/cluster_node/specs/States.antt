@@ -1,5 +1,6 @@
 -- A node: its protocol over the log, and the connections of its clients.
-use Rattle.std.specs.Prelude.{◌≡◌, ℕ, ◌≤◌, Bool, false, Option, Some, None, IfSome, is_none, option_map}
+use Rattle.std.specs.Prelude.{◌≡◌, ℕ, ◌≤◌, Bool, false, List, [], Option, Some, None, IfSome, is_none, option_map}
+use Rattle.std.specs.Map.{keys_of}
 use Rattle.disk_core.specs.Views.{DiskView}
 use Rattle.quorum_log.specs.Layout.{image_size}
 use Rattle.quorum_log.specs.Logs.{LogValue}
@@ -63,6 +64,10 @@ log_in n = elim n.running [ None ↦ None | Some x ↦ x.member.log ]
 
 abbrev pub client_in : ℕ → NodeValue → Option Client
 client_in conn n = elim n.running [ None ↦ None | Some x ↦ client_at conn x.clients ]
+
+-- The connections that are open at it, by ascending numbers.
+abbrev pub open_at : NodeValue → List ℕ
+open_at n = elim n.running [ None ↦ [] | Some x ↦ keys_of x.clients.conns ]
 
 -- The disk has room for the log that the node writes.
 abbrev pub HasRoom : NodeValue → DiskView → Type 0

@@ -2,7 +2,7 @@
 
 ghost use Rattle.std.specs.Prelude.{◌≡◌, IfOk, None, OnErr, option_to_list};
 ghost use Rattle.client_connections.specs.Clients.{client_at, connected};
-ghost use Rattle.cluster_node.specs.Events.{Connects, HangsUp, HearsBytes};
+ghost use Rattle.cluster_node.specs.Events.{Connects, Dies, HangsUp, HearsBytes};
 ghost use Rattle.cluster_node.specs.States.{IsSameNode, client_in};
 
 use crate::node::Node;
@@ -67,6 +67,20 @@ impl Node {
                 Err(error)
             }
         }
+    }
+
+    /// The node dies: each of its connections is closed, by ascending numbers.
+    pub fn die(&mut self) -> Result<Effects, AllocError>
+        ensures dies { IfOk result (λ effects. Dies self.old.running self.new.running effects) }
+        ensures same { IsSameNode self.old self.new }
+        ensures stops { self.new.running ≡ None }
+    {
+        let Some(running) = &mut self.running else {
+            return Ok(self.silence());
+        };
+        let closed = running.clients.stop();
+        self.stop();
+        Ok(Effects::new(closed?))
     }
 }
 

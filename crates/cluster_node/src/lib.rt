@@ -12,5 +12,5 @@ mod protocol;
 mod running;
 mod taking;
 
-pub use laws::{events_are_steps, stays_in_step};
+pub use laws::{events_are_steps, keeps_numbers, keeps_room, stays_in_step};
 pub use node::Node;

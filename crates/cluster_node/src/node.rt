@@ -1,6 +1,6 @@
 //! A node, and what a caller can see of it.
 
-ghost use Rattle.std.specs.Prelude.{◌≡◌, [], None, option_map};
+ghost use Rattle.std.specs.Prelude.{◌≡◌, [], IfOk, None, is_some, option_map};
 ghost use Rattle.registry_machine.specs.Machine.{replicated};
 ghost use Rattle.cluster_node.specs.States as states;
 
@@ -8,7 +8,7 @@ use crate::running::Running;
 use client_connections::Connections;
 use clus_registry::Registry;
 use cluster_member::{Effects, Member};
-use std::alloc::Global;
+use std::alloc::{AllocError, Global};
 use std::marker::Model;
 use update_records::Record;
 
@@ -73,6 +73,26 @@ impl Node {
         match &self.running {
             Some(running) => running.member.is_open(),
             None => false,
+        }
+    }
+
+    /// Whether the connection is open.
+    pub fn is_connected(&self, conn: u32) -> bool
+        ensures { result ≡ is_some (states.client_in conn self.now) }
+    {
+        match &self.running {
+            Some(running) => running.clients.is_open(conn),
+            None => false,
+        }
+    }
+
+    /// The numbers of the connections that are open, ascending.
+    pub fn connections(&self) -> Result<Vec<u32>, AllocError>
+        ensures { IfOk result (λ numbers. numbers.items ≡ states.open_at self.now) }
+    {
+        match &self.running {
+            Some(running) => running.clients.numbers(),
+            None => Ok(Vec::new(self.alloc)),
         }
     }
 
