@@ -3,6 +3,7 @@ pub mod Keeping
 pub mod Taking
 pub mod Serving
 pub mod Submitting
+pub mod Reasons
 pub mod Served
 pub mod Finishing
 pub mod Growing

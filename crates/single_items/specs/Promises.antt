@@ -1,5 +1,5 @@
 -- What is promised of a node that is alone: how it goes on from where it stands, and what that says of its connection.
-use Rattle.std.specs.Prelude.{◌≡◌, ◌⊎◌, ℕ, ◌+◌, ◌≤◌, false, List, [], ◌∷◌, ◌++◌, length, Option, Some, None}
+use Rattle.std.specs.Prelude.{◌≡◌, ◌≢◌, ◌⊎◌, ℕ, ◌+◌, ◌<◌, ◌≤◌, false, List, [], ◌∷◌, ◌++◌, length, Option, Some, None}
 use Rattle.std.specs.Option.{option_to_list}
 use Rattle.update_records.specs.Entry.{Entry}
 use Rattle.gum_messages.specs.Messages.{Sent}
@@ -9,10 +9,13 @@ use Rattle.rpc_calls.specs.declared.side.Side.TheVariants.{Server}
 use Rattle.rpc_calls.specs.Streams.{Items}
 use Rattle.cluster_rules.specs.declared.effect.CloseCause.{CloseCause}
 use Rattle.cluster_rules.specs.declared.effect.Effect.{Effect}
+use Rattle.cluster_rules.specs.declared.effect.Effect.TheVariants.{Halted}
+use Rattle.cluster_rules.specs.declared.effect.HaltCause.{HaltCause}
+use Rattle.cluster_rules.specs.declared.effect.HaltCause.TheVariants as halt
 use Rattle.cluster_rules.specs.Machines.{registry_at}
 use Rattle.cluster_rules.specs.Nodes.{NodeState}
 use Rattle.cluster_rules.specs.Receiving.{receive}
-use Rattle.cluster_rules.specs.Updates.{Answer}
+use Rattle.cluster_rules.specs.Updates.{Answer, Written}
 use Rattle.cluster_rules.specs.Worlds.{sent}
 use Rattle.registry_machine.specs.Machine.{registry_machine}
 use Rattle.client_connections.specs.Clients.{Client, Clients, client_at, has_waiting, hung_up, no_clients, with_new}
@@ -140,6 +143,18 @@ abbrev pub HaltsAlone : ℕ → AloneRun → List ℕ → NodeAlone → List ℕ
 HaltsAlone c first stream z output records =
     (p : Sent) (left : List Sent) (held : ℕ) (answer : Answer) → z.left ≡ p ∷ left → (receive z.node p held answer).out.node ≡ None
     → TellsFirst c first stream output (records ++ option_to_list (receive z.node p held answer).doubtful)
+
+-- Its log didn't take the record, or a greater fencing token than its view's number is held.
+abbrev pub IsReason : HaltCause → ℕ → ℕ → Answer → Type 0
+IsReason halt.Disk view held answer = answer ≢ Written
+IsReason (halt.Fenced claim) view held answer = (view < held) × (claim ≡ held)
+IsReason (halt.Image place) view held answer = ⊥
+
+-- For such a reason alone it halts at a message.
+abbrev pub HaltsBecause : AloneRun → NodeAlone → Type 0
+HaltsBecause first z =
+    (p : Sent) (left : List Sent) (held : ℕ) (answer : Answer) (cause : HaltCause) → z.left ≡ p ∷ left → (receive z.node p held answer).out.node ≡ None
+    → (receive z.node p held answer).out.effects ≡ Halted cause ∷ [] → IsReason cause first.single.view held answer
 
 -- The registry of the node is that of the whole order, where it was so at first.
 pub record IsOnOrder (cap : ℕ) (order : List Entry) (x : NodeState registry_machine) : Type 0 where

@@ -9,4 +9,4 @@ mod meaning;
 
 pub use connections::{connects, ends, hangs_up, opens};
 pub use events::{hears_message, hears_piece};
-pub use meaning::{halts_alone, order_goes_on, tells_alone, tells_first};
+pub use meaning::{halts_alone, halts_because, order_goes_on, tells_alone, tells_first};

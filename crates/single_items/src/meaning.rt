@@ -3,7 +3,7 @@
 ghost use Rattle.std.specs.Prelude.{List, ℕ};
 ghost use Rattle.update_records.specs.Entry.{Entry};
 ghost use Rattle.single_items.specs.Alone.{AloneRun};
-ghost use Rattle.single_items.specs.Promises.{HaltsAlone, OrderGoesOn, TellsAlone, TellsFirst};
+ghost use Rattle.single_items.specs.Promises.{HaltsAlone, HaltsBecause, OrderGoesOn, TellsAlone, TellsFirst};
 ghost use Rattle.single_items.specs.Standing.{NodeAlone, StandsAt};
 
 /// With no message under way the connection was sent what Alone says of the items of its stream, and the records are Alone's.
@@ -22,6 +22,12 @@ pub fn tells_first()
 pub fn halts_alone()
     ensures { (c : ℕ) (first : AloneRun) (stream : List ℕ) (z : NodeAlone) (output : List ℕ) (records : List Entry)
         → StandsAt c first stream z output records → HaltsAlone c first stream z output records }
+{}
+
+/// It halts for no other reason.
+pub fn halts_because()
+    ensures { (c : ℕ) (first : AloneRun) (stream : List ℕ) (z : NodeAlone) (output : List ℕ) (records : List Entry)
+        → StandsAt c first stream z output records → HaltsBecause first z }
 {}
 
 /// The order that the log holds goes on by the records, and the node has the registry of the whole order.

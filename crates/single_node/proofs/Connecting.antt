@@ -14,7 +14,7 @@ use Rattle.single_items.proofs.Connecting.{connects_alone, hangs_up}
 use Rattle.single_node.specs.Opening.{ConnectLeads, HangUpLeads}
 use Rattle.single_node.specs.Standing.{alone_node}
 
-connects_first : (c : ℕ) (s : Clients) → s.conns ≡ [] → connected c s ≡ (with_new c s, None)
+pub connects_first : (c : ℕ) (s : Clients) → s.conns ≡ [] → connected c s ≡ (with_new c s, None)
 connects_first c s none =
     let room : nat_lt (length s.conns) most_clients ≡ true = ap (λ (l : List (ℕ × Client)). nat_lt (length l) most_clients) none in
     ap (λ (b : Bool). if b then (with_new c s, None) else (s, Some (Closed c Limit))) room

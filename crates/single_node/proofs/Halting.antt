@@ -1,5 +1,5 @@
 -- Where the node halts at its oldest message.
-use Rattle.std.proofs.Common.{ℕ, List, ◌∷◌, None, Result, Ok, Err, refl}
+use Rattle.std.proofs.Common.{◌≡◌, ℕ, List, ◌∷◌, None, Result, Ok, Err, refl}
 use Rattle.disk_core.specs.Views.{DiskView}
 use Rattle.gum_messages.specs.Messages.{Sent}
 use Rattle.update_records.specs.Entry.{Entry}
@@ -16,6 +16,7 @@ use Rattle.cluster_node.specs.States.{RunningNode}
 use Rattle.single_items.specs.Alone.{AloneRun}
 use Rattle.single_items.specs.Standing.{StandsAt}
 use Rattle.single_items.proofs.Halting.{halts_alone}
+use Rattle.single_items.proofs.Reasons.{halts_because}
 use Rattle.single_node.specs.Laws.{HaltLeads, HaltedAt}
 use Rattle.single_node.specs.Standing.{alone_node}
 
@@ -27,8 +28,12 @@ module _ (c : ℕ) (first : AloneRun) (stream : List ℕ) (p : Sent) (left : Lis
   halted_as (Err (stop.Halted cause)) m r follows = record {
     cause = cause;
     effects = follows;
+    left = left;
+    stood = stands;
     added = r.added;
     logs = r.logs;
+    why = halts_because c first stream (alone_node x (p ∷ left)) output records stands p left v.current.held (answer_to r.added) cause refl r.comes.0 r.comes.1;
+    had_memory = λ out. let e : ◌≡◌ {A = Result Told Stop} (Err (stop.Halted cause)) (Err stop.Memory) = r.memory out in absurd (cc);
     first_of = halts_alone c first stream (alone_node x (p ∷ left)) output records stands p left v.current.held (answer_to r.added) refl r.comes.0;
   }
 

@@ -32,7 +32,8 @@ use Rattle.single_node.specs.Laws.{HeardOne, MessageLeads}
 use Rattle.single_node.specs.Standing.{alone_node}
 use Rattle.single_node.proofs.Agreeing.{AgreesOpen, follows_acks}
 use Rattle.single_node.proofs.Falling.{IsLight, ask_light, falls, release_light}
-use Rattle.single_node.proofs.Going.{State, WentOn, logs_one, receives_on}
+use Rattle.single_node.proofs.Going.{State, WentOn, logs_one, next_place, receives_on}
+use Rattle.single_node.proofs.Applied.{changes_as_stands}
 
 -- ---- what an acknowledgement tells
 
@@ -105,10 +106,12 @@ module _ (c : ℕ) (first : AloneRun) (stream : List ℕ) (p : Sent) (left : Lis
       } in
       let on : WentOn d (to_log x.member.rules p) answer = receives_on x.member.rules m.rules p v.current.held answer r.comes.node in
       let next = hears_message c first stream (alone_node x (p ∷ left)) output records stands p left v.current.held answer y.member.rules y.clients es refl comes in
+      let behind = subst (λ (e : Option Entry). StandsAt c first stream (alone_node y (left ++ sent es)) (output ++ told_to c es) (records ++ option_to_list e)) on.appended next in
       record {
         logged = to_log x.member.rules p;
-        logs = logs_one (to_log x.member.rules p) r.added x.member m y.member v w r.logs r.kept (acts_log (acked told.effects) (head_request x) m y.member x.clients y.clients told es acts) on.written;
-        stands = subst (λ (e : Option Entry). StandsAt c first stream (alone_node y (left ++ sent es)) (output ++ told_to c es) (records ++ option_to_list e)) on.appended next;
+        logs = logs_one (to_log x.member.rules p) r.added x.member m y.member v w r.logs r.kept (acts_log (acked told.effects) (head_request x) m y.member x.clients y.clients told es acts) on.written
+            (changes_as_stands c first stream (to_log x.member.rules p) x y (p ∷ left) (left ++ sent es) output (output ++ told_to c es) records (next_place x.member.rules p) stands behind);
+        stands = behind;
         less = falls c first stream stream (alone_node x (p ∷ left)) output (output ++ told_to c es) records (records ++ option_to_list d.appended) stands p left v.current.held answer
             y.member.rules y.clients es refl comes next;
       }

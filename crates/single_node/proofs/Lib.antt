@@ -2,8 +2,11 @@ pub mod Agreeing
 pub mod Pieces
 pub mod Falling
 pub mod Going
+pub mod Applied
 pub mod Hearing
 pub mod Halting
 pub mod Opens
 pub mod Connecting
 pub mod Delivery
+pub mod Sending
+pub mod Starting

@@ -14,12 +14,12 @@ use Rattle.single_items.specs.Events.{told_to}
 use Rattle.single_items.specs.Promises.{IsRefused}
 use Rattle.single_items.specs.Standing.{StandsAt}
 use Rattle.single_node.specs.Laws.{HaltedAt}
-use Rattle.single_node.specs.Standing.{AddsOne, alone_node, work}
+use Rattle.single_node.specs.Standing.{AddsOne, IsStill, alone_node, work}
 
 -- The records were added to the log in turn, and no other call of the disk was made.
 abbrev pub LogsAll : List Entry → MemberState → DiskView → MemberState → DiskView → Type 0
-LogsAll [] x v y w = (w ≡ v) × (y.log ≡ x.log)
-LogsAll (e ∷ es) x v y w = (m : MemberState) × (n : MemberState) × (u : DiskView) × (m.log ≡ x.log) × AddsOne e m v n u × LogsAll es n u y w
+LogsAll [] x v y w = (w ≡ v) × IsStill x y
+LogsAll (e ∷ es) x v y w = (m : MemberState) × (n : MemberState) × (u : DiskView) × IsStill x m × AddsOne e m v n u × LogsAll es n u y w
 
 -- Since Alone stood behind this output and these records, all of this was told, and these messages are left to be heard.
 pub record UnderWay (c : ℕ) (first : AloneRun) (stream output : List ℕ) (records : List Entry) (x : MemberState) (v : DiskView) (left : List Sent) (y : RunningNode) (w : DiskView) (told : List Effect) : Type 0 where

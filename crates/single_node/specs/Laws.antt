@@ -1,11 +1,12 @@
 -- The events of a node lead on where it is alone, as Alone says.
-use Rattle.std.specs.Prelude.{◌≡◌, ◌⊎◌, ℕ, ◌<◌, List, [], ◌∷◌, ◌++◌, Option, Some, None, Result, Ok, option_to_list}
+use Rattle.std.specs.Prelude.{◌≡◌, ◌≢◌, ◌⊎◌, ℕ, ◌<◌, List, [], ◌∷◌, ◌++◌, Option, Some, None, Result, Ok, Err, option_to_list}
 use Rattle.std.specs.declared.alloc.AllocError.{AllocError}
 use Rattle.disk_core.specs.Views.{DiskView}
 use Rattle.gum_messages.specs.Messages.{Sent}
 use Rattle.quorum_log.specs.Logs.{LogValue}
 use Rattle.update_records.specs.Entry.{Entry}
 use Rattle.record_log.specs.declared.fault.AddFault.{AddFault}
+use Rattle.record_log.specs.declared.fault.AddFault.TheVariants as add
 use Rattle.cluster_rules.specs.declared.effect.Effect.{Effect}
 use Rattle.cluster_rules.specs.declared.effect.Effect.TheVariants.{Halted}
 use Rattle.cluster_rules.specs.declared.effect.HaltCause.{HaltCause}
@@ -18,7 +19,7 @@ use Rattle.cluster_node.specs.Events.{HearsBytes, NodeReceives}
 use Rattle.cluster_node.specs.States.{RunningNode}
 use Rattle.single_items.specs.Alone.{AloneRun}
 use Rattle.single_items.specs.Events.{told_to}
-use Rattle.single_items.specs.Promises.{IsRefused, TellsFirst}
+use Rattle.single_items.specs.Promises.{IsReason, IsRefused, TellsFirst}
 use Rattle.single_items.specs.Standing.{StandsAt}
 use Rattle.single_node.specs.Standing.{LogsOne, alone_node, work}
 
@@ -43,12 +44,18 @@ MessageLeads =
     → StandsAt c first stream (alone_node x (p ∷ left)) output records → NodeReceives {E = AllocError} v (Some x) p (Ok es) (Some y) w
     → HeardOne c first stream p left x v y w es output records
 
--- The node halted at the oldest message: what was told and logged before is the first of Alone's, with the record in doubt.
+-- The node halted at the oldest message, where it stood: what was told and logged before is the first of Alone's, with the
+-- record in doubt.
 pub record HaltedAt (c : ℕ) (first : AloneRun) (stream : List ℕ) (p : Sent) (x : RunningNode) (v w : DiskView) (es : List Effect) (output : List ℕ) (records : List Entry) : Type 0 where
   pub cause : HaltCause
   pub effects : es ≡ Halted cause ∷ closings x.clients.conns
+  pub left : List Sent
+  pub stood : StandsAt c first stream (alone_node x (p ∷ left)) output records
   pub added : Option (Result LogValue AddFault)
   pub logs : Logs (to_log x.member.rules p) x.member v added w
+  -- Its log didn't take the record, for another reason than that memory ran out, or is claimed by a later view.
+  pub why : IsReason cause first.single.view v.current.held (answer_to added)
+  pub had_memory : added ≢ Some (Err add.Memory)
   pub first_of : TellsFirst c first stream output (records ++ option_to_list (receive x.member.rules p v.current.held (answer_to added)).doubtful)
 
 abbrev pub HaltLeads : Type 0

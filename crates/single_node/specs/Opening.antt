@@ -1,8 +1,9 @@
 -- How a node comes to be alone, and how its connections begin and end.
-use Rattle.std.specs.Prelude.{◌≡◌, ℕ, ◌<◌, false, List, [], ◌∷◌, Some, None, Ok, Err}
+use Rattle.std.specs.Prelude.{◌≡◌, ◌≢◌, ℕ, ◌<◌, IsTrue, false, List, [], ◌∷◌, Some, None, Ok, Err}
 use Rattle.std.specs.declared.alloc.AllocError.{AllocError}
-use Rattle.disk_core.specs.Views.{DiskView}
+use Rattle.disk_core.specs.Views.{DiskView, Passes}
 use Rattle.quorum_log.specs.Logs.{LogValue}
+use Rattle.quorum_log.specs.Opening.{IsInOpen}
 use Rattle.update_records.specs.Entry.{Entry}
 use Rattle.record_log.specs.declared.recovered.Recovered.{Recovered}
 use Rattle.record_log.specs.declared.fault.RecordFault.{RecordFault}
@@ -40,11 +41,17 @@ offering_in r = record { count = r.count; cap = r.cap; last = r.last }
 abbrev pub opened_with : ℕ → ℕ → ℕ → ℕ → Recovered → Single registry_machine
 opened_with node inc number stamp r = opened_over node inc number stamp (offering_in r) (replicated r.registry)
 
+-- Behind the opening a read gives what it gave before, and meanwhile each image could stand before.
+pub record OnlyClaims (number : ℕ) (v w : DiskView) : Type 0 where
+  pub seen : IsTrue v.tells → w.current.seen ≡ v.current.seen
+  pub moments : IsTrue v.tells → Passes (IsInOpen v.current number) v w
+
 -- Its view is open, and it has no connection.
 pub record OpenedAlone (node inc stamp number : ℕ) (v : DiskView) (y : RunningNode) (w : DiskView) (es : List Effect) : Type 0 where
   pub log : LogValue
   pub recovered : Recovered
   pub opened : HasOpened number v log recovered w
+  pub claims : OnlyClaims number v w
   pub has : y.member.log ≡ Some log
   pub unconnected : IsUnconnected (alone_node y []) (opened_with node inc number stamp recovered) (handles.fresh node) 0
   pub effects : es ≡ Opened number ∷ []
@@ -60,10 +67,12 @@ cause_for (records.Fenced held) = halt.Fenced held
 cause_for (records.Image place) = halt.Image place
 cause_for records.Memory = halt.Disk
 
--- The log wasn't recovered: the node halts.
+-- The log wasn't recovered, for another reason than that memory ran out: the node halts.
 pub record NotOpened (number : ℕ) (v w : DiskView) (es : List Effect) : Type 0 where
   pub fault : RecordFault
+  pub had_memory : fault ≢ records.Memory
   pub opens : OpensTo number v (Err fault) w
+  pub claims : OnlyClaims number v w
   pub effects : es ≡ Halted (cause_for fault) ∷ []
 
 abbrev pub OpenFails : Type 0
