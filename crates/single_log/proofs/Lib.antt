@@ -1,0 +1,9 @@
+pub mod Behind
+pub mod Steps
+pub mod Adding
+pub mod Fronts
+pub mod Running
+pub mod Opens
+pub mod Blank
+pub mod Leaving
+pub mod Runs
