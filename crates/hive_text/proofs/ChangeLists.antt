@@ -140,7 +140,7 @@ only_memory TooLong path gives = absurd gives
 only_memory EmptyPart path gives = absurd gives
 only_memory PartTooLong path gives = absurd gives
 
-short_enough : (count : ℕ) (fault : NameFault) → count ≤ 1023 → IsTooLong count fault → fault ≡ Memory
+pub short_enough : (count : ℕ) (fault : NameFault) → count ≤ 1023 → IsTooLong count fault → fault ≡ Memory
 short_enough count Memory short long = refl
 short_enough count TooLong short long = absurd (omega (arith, short, long))
 short_enough count EmptyPart short long = absurd long

@@ -2,3 +2,11 @@ pub mod HiveText
 pub mod Changes
 pub mod Batches
 pub mod Batching
+pub mod TextLines
+pub mod TextFaults
+pub mod LineWords
+pub mod Standings
+pub mod TextLaws
+pub mod Told
+pub mod Walks
+pub mod Turns

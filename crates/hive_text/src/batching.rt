@@ -149,7 +149,7 @@ fn path_below(alloc: Global, path: &Path, part: &[u16]) -> Result<Path, AllocErr
 }
 
 /// The fault of a call that can have no other.
-fn out_of_memory(fault: NameFault) -> AllocError
+pub(crate) fn out_of_memory(fault: NameFault) -> AllocError
     requires { fault ≡ Memory }
 {
     match fault {

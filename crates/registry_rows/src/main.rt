@@ -8,9 +8,11 @@
 //! | `text CAP BYTES` | prints the registry of a state as text |
 //! | `batches CAP BYTES` | prints `batch COUNT SIZE` for each batch of updates that the registry comes to: its changes and its bytes |
 //! | `updates CAP BYTES` | prints `update HEX` for each of them |
+//! | `read CAP COUNT TEXT` | reads a text, in which `/` stands for a line feed and `#` for COUNT bytes of 0 as hex |
 //!
-//! BYTES are words: hex, `HEX*COUNT` for the same COUNT times, or `$NAME`. A state prints the size of its registry, or
-//! `bad` with the place of the first field at fault. Any other line ends the program, with its number.
+//! BYTES are words: hex, `HEX*COUNT` for the same COUNT times, or `$NAME`. A state and a text that is read print the size of
+//! the registry, or `bad` with the place of the first field or line at fault. Any other line ends the program, with its
+//! number.
 #![tactic(auto)]
 
 mod texts;
@@ -23,7 +25,7 @@ use row_words::{Names, RowFault, bytes_of};
 use std::alloc::Global;
 use std::io;
 use std::process::ExitCode;
-use texts::{batches_row, text_row, updates_row};
+use texts::{batches_row, read_row, text_row, updates_row};
 
 fn main(rt: HostRuntime) -> ExitCode {
     match play_all(&rt) {
@@ -63,6 +65,7 @@ fn play(alloc: Global, names: &mut Names, line: &str) -> Result<String, RowFault
         Some(("text", text)) => text_row(alloc, names, text),
         Some(("batches", text)) => batches_row(alloc, names, text),
         Some(("updates", text)) => updates_row(alloc, names, text),
+        Some(("read", text)) => read_row(alloc, text),
         _ => Err(RowFault::Bad),
     }
 }

@@ -1,7 +1,7 @@
-//! The rows `text`, `batches` and `updates`.
+//! The rows `text`, `batches`, `updates` and `read`.
 
 use clus_registry::{Registry, StateFault};
-use hive_text::{batches, print};
+use hive_text::{TextFault, batches, print, read};
 use row_words::{Names, RowFault, bytes_of};
 use std::alloc::Global;
 use update_records::{Update, encode_update};
@@ -61,4 +61,43 @@ fn registry_of(alloc: Global, names: &Names, text: &str) -> Result<Registry, Row
         Err(StateFault::Bad { .. }) => Err(RowFault::Bad),
         Err(StateFault::Memory) => Err(RowFault::Memory),
     }
+}
+
+/// The size of the registry of a text, or the place of the first line at fault.
+pub(crate) fn read_row(alloc: Global, text: &str) -> Result<String, RowFault> {
+    let (cap, text) = text.split_once(' ').ok_or(RowFault::Bad)?;
+    let (count, text) = text.split_once(' ').ok_or(RowFault::Bad)?;
+    let cap = cap.parse::<u32>()?;
+    let count = count.parse::<u16>()?;
+    if cap < 4096 || 16_777_216 < cap {
+        return Err(RowFault::Bad);
+    }
+    match read(alloc, &lines_of(alloc, count, text.as_bytes())?, cap) {
+        Ok(registry) => {
+            let size = registry.size();
+            Ok(format!(in alloc; "size {size}\n")?)
+        }
+        Err(TextFault::Bad { place }) => Ok(format!(in alloc; "bad {place}\n")?),
+        Err(TextFault::Memory) => Err(RowFault::Memory),
+    }
+}
+
+/// The text with its line feeds, and with so many bytes of 0 where `#` stands.
+fn lines_of(alloc: Global, count: u16, text: &[u8]) -> Result<Vec<u8>, RowFault> {
+    let mut lines = Vec::new(alloc);
+    'bytes: for byte in text {
+        match *byte {
+            b'/' => lines.push(b'\n')?,
+            b'#' => push_zeros(&mut lines, count)?,
+            byte => lines.push(byte)?,
+        }
+    }
+    Ok(lines)
+}
+
+fn push_zeros(lines: &mut Vec<u8>, count: u16) -> Result<(), RowFault> {
+    for _ in 0..count {
+        lines.extend_from_slice(b"00")?;
+    }
+    Ok(())
 }
