@@ -98,7 +98,7 @@ pub record Front (taken all : List Item) : Type 0 where
   pub others : List Item
   pub are : all ≡ taken ++ others
 
-front_of : (kept : Kept) (commands : List Command) (stream : List ℕ) (given : List Ask) (h : Holds kept commands stream given) (items : List Item) (found : Option IntakeFault)
+pub front_of : (kept : Kept) (commands : List Command) (stream : List ℕ) (given : List Ask) (h : Holds kept commands stream given) (items : List Item) (found : Option IntakeFault)
     → Items sides.Client (looked_at stream) items found → Front (h.items ++ option_to_list kept.item) items
 front_of kept commands stream given h items found is =
     let P : Side → Type 0 = λ side. Items side (looked_at stream) items found in

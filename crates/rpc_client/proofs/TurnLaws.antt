@@ -1,6 +1,7 @@
 -- What each turn of `next` and each piece of the stream does to what a client holds.
 use Rattle.std.proofs.Common.{◌≡◌, ℕ, ◌+◌, ◌-◌, ◌<◌, ◌≤◌, Bool, true, false, List, ◌++◌, length, take, Result, Ok, Err, Option, None, Some, refl, sym, ap, ◌∙◌}
 use Rattle.std.proofs.lemmas.Bool.{ltb-true, ltb-false}
+use Rattle.std.proofs.lemmas.List.{take_all}
 use Rattle.rpc_calls.specs.declared.feed_fault.FeedFault.{FeedFault}
 use Rattle.rpc_calls.specs.declared.feed_fault.FeedFault.TheVariants as feeds
 use Rattle.rpc_calls.specs.declared.intake_fault.IntakeFault.{IntakeFault}
@@ -81,3 +82,12 @@ fed_front taken kept intake room front piece is many cut fits fed = (
       is_fed kept intake front piece true commands stream given fed (fits_front most_stream room stream piece left ∙ ap (λ (l : List ℕ). looked_at stream ++ l) (sym cut))
       (passed_now most_stream room stream piece left many) h,
 )
+
+-- ---- how long the stream is
+
+-- What an intake received is all of the stream, as long as all of it is looked at.
+pub all_received : (kept : Kept) (size : ℕ) (commands : List Command) (stream : List ℕ) (given : List Ask) → size ≡ intakes.stream_length kept.intake
+    → Holds kept commands stream given → kept.passed ≡ false → size ≡ length stream
+all_received kept size commands stream given is h looks =
+    let short : length stream ≤ most_stream = ltb-false _ _ (sym h.passed ∙ looks) in
+    is ∙ length_known kept.intake (looked_at stream) _ h.fed ∙ ap (λ (l : List ℕ). length l) (take_all most_stream stream short)

@@ -107,11 +107,3 @@ end_of false = Ok (Some Wait)
 abbrev pub told_by : Kept → List (List ℕ) → Option (List ℕ) → Kept
 told_by kept lines sent =
     record { opened = kept.opened; asking = kept.asking; lines = lines; sent = sent; intake = kept.intake; item = None; passed = kept.passed }
-
--- How much is to be read yet.
-abbrev pub held : Option Item → ℕ
-held None = 0
-held (Some item) = 1
-
-abbrev pub work : Kept → ℕ
-work kept = 2 * length kept.intake.rest + held kept.item

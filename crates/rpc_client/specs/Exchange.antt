@@ -9,7 +9,7 @@ use Rattle.rpc_calls.specs.declared.side.Side.TheVariants.{Client}
 use Rattle.rpc_calls.specs.Streams.{Items, Reads}
 use Rattle.client_commands.specs.declared.command.Command.{Command}
 use Rattle.rpc_client.specs.declared.ask.Ask.{Ask}
-use Rattle.rpc_client.specs.Runs.{Ending, refuses, rests, waits, whole_run}
+use Rattle.rpc_client.specs.Runs.{Ending, Run, refuses, rests, waits, whole_run}
 
 -- How much of a stream is looked at.
 abbrev pub most_stream : ℕ
@@ -68,3 +68,13 @@ pub record Ends (commands : List Command) (stream : List ℕ) (items : List Item
 abbrev pub Exchange : List Command → List ℕ → List Ask → End → Type 0
 Exchange commands stream given end =
     (items : List Item) (found : Option IntakeFault) → Items Client (looked_at stream) items found → Ends commands stream items found given end
+
+-- A run gives that first.
+pub record GivesFirst (given : List Ask) (run : Run) : Type 0 where
+  pub others : List Ask
+  pub are : run.0 ≡ given ++ others
+
+-- For these commands and this stream that is the first of what a client says and sends.
+abbrev pub Begins : List Command → List ℕ → List Ask → Type 0
+Begins commands stream given =
+    (items : List Item) (found : Option IntakeFault) → Items Client (looked_at stream) items found → GivesFirst given (whole_run commands items)

@@ -1,3 +1,4 @@
 pub mod Runs
 pub mod Exchange
 pub mod Clients
+pub mod Progress

@@ -5,7 +5,8 @@ ghost use Rattle.client_commands.specs.declared.command.Command.{Command};
 ghost use Rattle.client_commands.specs.Commands.{CommandFits};
 ghost use Rattle.rpc_client.specs.declared.ask.Ask.{Ask};
 ghost use Rattle.rpc_client.specs.declared.ask.Ask.TheVariants.{Write};
-ghost use Rattle.rpc_client.specs.Clients.{FeedIs, Holds, IsAwaiting, IsIdle, IsIdleAfter, NextIs, TurnIs, end_of, new_client, told_by, work};
+ghost use Rattle.rpc_client.specs.Clients.{FeedIs, Holds, IsAwaiting, IsIdle, IsIdleAfter, NextIs, TurnIs, end_of, new_client, told_by};
+ghost use Rattle.rpc_client.specs.Progress.{IsOpenAfter, LeavesLess, TurnLeavesLess, to_feed, to_give};
 
 use crate::ask::Ask;
 use crate::client_fault::ClientFault;
@@ -104,6 +105,7 @@ impl Client {
     pub fn feed(&mut self, piece: &[u8]) -> Result<(), FeedFault>
         ensures fed { FeedIs result self.old self.new piece.now }
         ensures opened { self.new.opened ≡ self.old.opened }
+        ensures less { OnOk result (self.old.passed ≡ false → 0 < length piece.now → to_feed self.new < to_feed self.old) }
     {
         if piece.len() > MOST_UNPROCESSED - self.intake.unprocessed() {
             return Err(FeedFault::Backlog);
@@ -117,12 +119,23 @@ impl Client {
         Ok(())
     }
 
+    /// How long the stream is, as long as all of it is looked at.
+    pub fn received(&self) -> u64
+        ensures { (commands : List Command) (stream : List ℕ) (given : List Ask) → Holds self.now commands stream given → self.now.passed ≡ false → result ≡ length stream }
+    {
+        self.intake.received()
+    }
+
     /// What is to be done next.
     pub fn next(&mut self) -> Result<Ask, ClientFault>
         requires { self.old.opened ≡ true }
         ensures next { NextIs result self.old self.new }
         ensures idle { IsIdleAfter result self.new }
         ensures opened { self.new.opened ≡ true }
+        // It gives no more than the stream brought, and takes no more of the stream.
+        ensures less { IfOk result (λ ask. LeavesLess ask self.old self.new) }
+        ensures unfed { to_feed self.new ≡ to_feed self.old }
+        ensures waits { IfOk result (λ ask. IsOpenAfter ask self.new) }
     {
         'turns: loop {
             match self.turn() {
@@ -139,7 +152,9 @@ impl Client {
         ensures turn { TurnIs result self.old self.new }
         ensures idle { IfOk result (λ ask. IfSome ask (λ ask. IsIdleAfter (Ok ask) self.new)) }
         ensures opened { self.new.opened ≡ true }
-        ensures less { IfOk result (λ ask. ask ≡ None → work self.new < work self.old) }
+        ensures less { IfOk result (λ ask. TurnLeavesLess ask self.old self.new) }
+        ensures unfed { to_feed self.new ≡ to_feed self.old }
+        ensures waits { IfOk result (λ ask. IfSome ask (λ ask. IsOpenAfter ask self.new)) }
     {
         if let Some(line) = self.lines.pop() {
             return Ok(Some(Ask::Line(line)));
@@ -162,7 +177,9 @@ impl Client {
         ensures turn { TurnIs result self.old self.new }
         ensures idle { IfOk result (λ ask. IfSome ask (λ ask. IsIdleAfter (Ok ask) self.new)) }
         ensures opened { self.new.opened ≡ true }
-        ensures less { IfOk result (λ ask. ask ≡ None → work self.new < work self.old) }
+        ensures less { IfOk result (λ ask. TurnLeavesLess ask self.old self.new) }
+        ensures unfed { to_feed self.new ≡ to_feed self.old }
+        ensures waits { IfOk result (λ ask. IfSome ask (λ ask. IsOpenAfter ask self.new)) }
     {
         match self.intake.next() {
             Ok(Some(item)) => {
@@ -194,7 +211,9 @@ impl Client {
         ensures turn { TurnIs result self.old self.new }
         ensures idle { IfOk result (λ ask. IfSome ask (λ ask. IsIdleAfter (Ok ask) self.new)) }
         ensures opened { self.new.opened ≡ true }
-        ensures less { IfOk result (λ ask. ask ≡ None → work self.new < work self.old) }
+        ensures less { IfOk result (λ ask. TurnLeavesLess ask self.old self.new) }
+        ensures unfed { to_feed self.new ≡ to_feed self.old }
+        ensures waits { IfOk result (λ ask. IfSome ask (λ ask. IsOpenAfter ask self.new)) }
     {
         let Some(item) = &self.item else {
             return Ok(None);

@@ -1,0 +1,5 @@
+pub mod LineLaws
+pub mod VisitLaws
+pub mod TalkLaws
+pub mod RunLaws
+pub mod AskLaws
