@@ -1,0 +1,10 @@
+mod Heards
+mod PieceLaws
+mod Written
+mod HearLaws
+mod ReplyLaws
+mod SessionLaws
+mod EndLaws
+mod ConverseLaws
+mod OpenLaws
+mod Tokens

@@ -1,0 +1,4 @@
+pub mod Begins
+pub mod Endings
+pub mod Hearing
+pub mod Session
