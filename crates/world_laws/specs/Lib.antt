@@ -1,0 +1,4 @@
+pub mod Typed
+pub mod Safe
+pub mod Kept
+pub mod Growing
