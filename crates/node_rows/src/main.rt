@@ -1,0 +1,72 @@
+//! Plays rows of text: each is an event of one node over a disk in memory, and the effects that it has are printed.
+//!
+//! | Line | What it does |
+//! |---|---|
+//! | `# TEXT`, or nothing | is printed as it is |
+//! | `let NAME BYTES` | names these bytes |
+//! | `disk SIZE` | begins with a new disk of so many zeros, without a claim; the node dies before |
+//! | `put PLACE BYTES` | writes to the disk under its own claim; the node dies before |
+//! | `format CAP` | begins with a new disk that has an empty log of this cap; the node dies before |
+//! | `crash CALLS BYTES` | the node dies, and the disk is left as a crash behind so many calls of the last event would have left it, with these bytes in what was pending |
+//! | `claim N` | makes N the fencing token of the disk, as another node would |
+//! | `fail N` | this call of the disk from here on fails, counted from 1 on |
+//! | `read PLACE COUNT` | prints bytes of the disk |
+//! | `start NODE INC` | the node dies, and this one begins |
+//! | `die` | the node dies |
+//! | `install VIEW MEMBERS` | a view with these members was declared, each a word NODE.INC |
+//! | `receive MESSAGE` | a message comes; bytes that are no message print `bad PLACE`, with the first field at fault |
+//! | `tick`, `checkpoint`, `clock STAMP` | the events of these names |
+//! | `connect CONN ..`, `hear CONN BYTES`, `hang_up CONN` | connections begin, one brings a piece of its stream, or ends |
+//! | `batch UPDATE` | a batch is handed in |
+//! | `show` | prints what the node tells of itself |
+//! | `state` | prints the encoding of its registry, where it has one |
+//!
+//! BYTES, MESSAGE and UPDATE are words: hex, `HEX*COUNT` for the same COUNT times, or `$NAME`; `00*0` is no byte. An
+//! event prints a line for each effect: `send KIND NODE MESSAGE`, `opened VIEW`, `acked VIEW PLACE`, `reply CONN BYTES`
+//! and `batched REQUEST STATUS INDEX`, with `point N` before BYTES or behind INDEX where there is one, `closed CONN
+//! CAUSE`, and `halted CAUSE`. Any other line ends the program, with its number.
+#![tactic(auto)]
+
+mod actor;
+mod rows;
+mod stage;
+mod telling;
+mod views;
+
+use row_words::RowFault;
+use rows::play;
+use stage::Stage;
+use std::io;
+use std::process::ExitCode;
+
+fn main(rt: HostRuntime) -> ExitCode {
+    match play_all(&rt) {
+        Ok(true) => ExitCode::from(0),
+        Ok(false) => ExitCode::from(1),
+        Err(_) => ExitCode::from(2),
+    }
+}
+
+/// Whether each line of the input was a row.
+fn play_all(rt: &HostRuntime) -> io::Result<bool> {
+    match Stage::new(rt.alloc()) {
+        Ok(mut stage) => play_lines(rt, &mut stage),
+        Err(_) => Err(io::Error::from(io::ErrorKind::OutOfMemory)),
+    }
+}
+
+fn play_lines(rt: &HostRuntime, stage: &mut Stage) -> io::Result<bool> {
+    let mut number = 0u64;
+    for line in rt.lines(rt.alloc()) {
+        number = number.saturating_add(1);
+        match play(stage, line?.as_str()) {
+            Ok(text) => print!(rt; "{text}")?,
+            Err(RowFault::Memory) => return Err(io::Error::from(io::ErrorKind::OutOfMemory)),
+            Err(RowFault::Bad) => {
+                println!(rt; "bad line {number}")?;
+                return Ok(false);
+            }
+        }
+    }
+    Ok(true)
+}
