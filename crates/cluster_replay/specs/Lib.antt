@@ -1,0 +1,4 @@
+pub mod Journals
+pub mod Slots
+pub mod Playing
+pub mod Moving
