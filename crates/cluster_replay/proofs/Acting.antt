@@ -1,6 +1,5 @@
 -- What happens at a place is what happens in the world.
-use Rattle.std.proofs.Common.{◌≡◌, ℕ, ◌+◌, ◌-◌, zero, suc, List, Option, Some, None, Result, Ok, Err, IfOk, IsSome, get_or, slice_set, refl, sym, ap, ◌∙◌, subst, arith}
-use Rattle.std.specs.Option.{option_flatten}
+use Rattle.std.proofs.Common.{◌≡◌, ℕ, ◌-◌, suc, List, Option, Some, None, Result, Ok, Err, IfOk, get_or, slice_set, refl, sym, ap, ◌∙◌, subst, arith}
 use Rattle.disk_core.specs.Crashes.{Crashed}
 use Rattle.disk_core.specs.Views.{DiskView}
 use Rattle.cluster_rules.specs.declared.effect.Effect.{Effect}
@@ -9,13 +8,13 @@ use Rattle.cluster_worlds.specs.declared.inner.Inner.{Inner}
 use Rattle.cluster_worlds.specs.declared.inner.Inner.TheVariants.{Install, Bytes, HangUp, Deliver, Tick, Checkpoint}
 use Rattle.cluster_worlds.specs.declared.told.Told.{Told}
 use Rattle.cluster_worlds.specs.Happening.{Acts, ActsAt, Dies, DiesIn, Reacts}
-use Rattle.cluster_worlds.specs.Telling.{absorbed, bereft, told_of}
+use Rattle.cluster_worlds.specs.Telling.{absorbed}
 use Rattle.cluster_worlds.specs.Worlds.{WorldState, slot_of}
 use Rattle.cluster_replay.specs.Journals.{JournalState, taken_in}
 use Rattle.cluster_replay.specs.Moving.{journal_of, moved}
 use Rattle.cluster_replay.specs.Playing.{IsSound}
 use Rattle.cluster_replay.specs.Slots.{ActsIn, IsIndex, ReactsAt, SlotActs, death_at, scene}
-use Rattle.cluster_replay.proofs.Sound.{stands}
+use Rattle.cluster_replay.proofs.Sound.{number_at, stands}
 
 pub ok_by : {A B : Type 0} (r : Result A B) (P Q : A → Type 0) → IfOk r P → ((a : A) → P a → Q a) → IfOk r Q
 ok_by (Ok a) P Q p f = f a p
@@ -48,9 +47,6 @@ acts_there P Q w i n slot k d told number f acts =
       tells = acts.tells;
       world = moves w w.nodes k acts.effects acts.after d i slot at acts.left acts.taken;
     }
-
-number_at : (w : WorldState) (i : ℕ) (n : NodeValue) → IsSound w → IsIndex (Some i) (Some n) w.nodes → n.number ≡ suc i
-number_at w i n sound index = (sound.nodes (suc i) n (ap option_flatten index.0)).number
 
 acts_by : (P Q : NodeValue → List Effect → NodeValue → DiskView → Type 0) (w : WorldState) (i : ℕ) (x : Option NodeValue) (slot : Option NodeValue) (k : JournalState) (d : DiskView) (told : List Told)
     → IsSound w → IsIndex (Some i) x w.nodes → ((n : NodeValue) (es : List Effect) (m : NodeValue) → P n es m d → Q n es m d)

@@ -1,17 +1,12 @@
 -- What is always so of a world stays so where a node starts, a view is declared or a connection begins.
-use Rattle.std.proofs.Common.{◌≡◌, ◌≢◌, ℕ, ◌+◌, ◌-◌, ◌<◌, ◌≤◌, inl, inr, zero, suc, Bool, true, false, cond, List, [], ◌∷◌, length, Option, Some, None, IsSome, get_or, slice_set, refl, sym, ap, ◌∙◌, subst, arith}
+use Rattle.std.proofs.Common.{◌≡◌, ℕ, ◌+◌, ◌≤◌, inl, inr, zero, suc, List, [], ◌∷◌, Some, slice_set, sym, ap, ◌∙◌, subst, arith}
 use Rattle.std.proofs.lemmas.List.{length-set}
 use Rattle.std.specs.Prelude.{slice_get, unwrap_or}
-use Rattle.std.specs.declared.cmp.Ordering.{Ordering}
-use Rattle.std.specs.declared.cmp.Ordering.TheVariants.{Less, Equal, Greater}
-use Rattle.std.specs.BTreeMap.{insert_entry, is_at}
-use Rattle.std.specs.Map.{lookup}
-use Rattle.std.specs.Ordering.{match_ordering, nat_cmp}
 use Rattle.gum_messages.specs.declared.view.View.{View}
 use Rattle.cluster_node.proofs.KeepingNumbers.{start_uses_none}
 use Rattle.cluster_node.proofs.KeepingRoom.{start_has_room}
 use Rattle.cluster_node.specs.States.{NodeValue, started}
-use Rattle.cluster_worlds.specs.Worlds.{WorldState, home_of, node_at, starts_of}
+use Rattle.cluster_worlds.specs.Worlds.{WorldState, node_at, starts_of}
 use Rattle.cluster_replay.specs.Playing.{Fits, IsSound}
 use Rattle.cluster_replay.proofs.Sound.{at_set}
 

@@ -7,7 +7,6 @@ use Rattle.std.specs.Option.{option_flatten}
 use Rattle.std.specs.BTreeMap.{is_at}
 use Rattle.std.specs.Map.{lookup}
 use Rattle.std.specs.Ordering.{nat_cmp}
-use Rattle.disk_core.specs.Views.{DiskView}
 use Rattle.cluster_node.specs.States.{NodeValue, client_in}
 use Rattle.cluster_worlds.specs.Worlds.{WorldState, home_of, node_at}
 use Rattle.cluster_replay.specs.Journals.{JournalState}

@@ -1,5 +1,5 @@
 -- What a node and its disk keep over each event.
-use Rattle.std.proofs.Common.{◌≡◌, ℕ, List, Option, Some, None, Result, Ok, Err, IfOk, OnErr, refl}
+use Rattle.std.proofs.Common.{◌≡◌, ℕ, List, None, Result, Ok, Err, IfOk, OnErr, refl}
 use Rattle.std.specs.declared.alloc.AllocError.{AllocError}
 use Rattle.disk_core.specs.Calls.{SameDisk}
 use Rattle.disk_core.specs.Views.{DiskView}

@@ -5,3 +5,4 @@ pub mod Keeping
 pub mod Noting
 pub mod Sound
 pub mod Turning
+pub mod Typed

@@ -1,5 +1,5 @@
 -- What is always so of a world stays so over an event at a node.
-use Rattle.std.proofs.Common.{◌≡◌, ◌≢◌, ℕ, ◌+◌, ◌-◌, ◌<◌, ◌≤◌, ◌⊎◌, inl, inr, zero, suc, List, [], ◌∷◌, length, Option, Some, None, IsSome, get_or, slice_set, refl, sym, ap, ◌∙◌, subst, arith}
+use Rattle.std.proofs.Common.{◌≡◌, ℕ, ◌+◌, ◌<◌, ◌≤◌, ◌⊎◌, inl, inr, zero, suc, List, [], ◌∷◌, Option, Some, None, get_or, slice_set, refl, sym, ap, ◌∙◌, subst, arith}
 use Rattle.std.proofs.lemmas.List.{length-set}
 use Rattle.std.proofs.lemmas.Option.{get_or_from_slice_get}
 use Rattle.std.specs.Prelude.{slice_get}
@@ -7,7 +7,7 @@ use Rattle.std.specs.Option.{option_flatten}
 use Rattle.disk_core.specs.Calls.{SameDisk}
 use Rattle.disk_core.specs.Views.{DiskView}
 use Rattle.cluster_node.proofs.KeepingRoom.{same_disk_has_room}
-use Rattle.cluster_node.specs.States.{HasRoom, NodeValue}
+use Rattle.cluster_node.specs.States.{NodeValue}
 use Rattle.cluster_worlds.specs.Worlds.{WorldState, node_at, starts_of}
 use Rattle.cluster_replay.specs.Journals.{JournalState}
 use Rattle.cluster_replay.specs.Moving.{moved}
@@ -118,3 +118,7 @@ then_same v w u a b = record { size = b.size ∙ a.size; tells = b.tells ∙ a.t
 -- Once an event is counted, no node was started so often.
 pub fewer : (w : WorldState) → IsSound w → (node : ℕ) → starts_of node w < w.steps + 1
 fewer w sound node = let few : starts_of node w ≤ w.steps = sound.counted node in omega arith
+
+-- The number of the node in a place.
+pub number_at : (w : WorldState) (i : ℕ) (n : NodeValue) → IsSound w → IsIndex (Some i) (Some n) w.nodes → n.number ≡ suc i
+number_at w i n sound index = (sound.nodes (suc i) n (ap option_flatten index.0)).number

@@ -1,23 +1,23 @@
 -- What a node's place keeps, and what happens in it, where the disk has no part in the event.
-use Rattle.std.proofs.Common.{◌≡◌, ◌≢◌, ℕ, ◌-◌, suc, List, Option, Some, None, Result, Ok, Err, IfOk, IfSome, OnErr, IsSome, get_or, slice_set, true, false, Bool, refl, sym, ap, ◌∙◌, subst, arith}
+use Rattle.std.proofs.Common.{◌≡◌, ℕ, ◌-◌, suc, List, Option, Some, None, Result, Ok, Err, IfOk, IfSome, OnErr, IsSome, get_or, slice_set, true, false, Bool, refl, sym, ap, ◌∙◌, subst, arith}
 use Rattle.std.specs.declared.alloc.AllocError.{AllocError}
 use Rattle.std.specs.Prelude.{is_none, option_map, if◌then◌else◌}
 use Rattle.disk_core.specs.Calls.{SameDisk}
 use Rattle.disk_core.specs.Views.{DiskView, Plan}
 use Rattle.cluster_rules.specs.declared.effect.Effect.{Effect}
 use Rattle.cluster_node.specs.Events.{Connects}
-use Rattle.cluster_node.specs.States.{IsSameNode, NodeValue, RunningNode, clocked}
+use Rattle.cluster_node.specs.States.{IsSameNode, NodeValue, clocked}
 use Rattle.cluster_node.proofs.KeepingNumbers.{connect_uses_one, stopped_uses_none}
 use Rattle.cluster_node.proofs.KeepingRoom.{connect_keeps_room, stopped_has_room}
 use Rattle.cluster_worlds.specs.declared.told.Told.{Told}
 use Rattle.cluster_worlds.specs.Happening.{with_clock}
-use Rattle.cluster_worlds.specs.Worlds.{WorldState, slot_of}
+use Rattle.cluster_worlds.specs.Worlds.{WorldState}
 use Rattle.cluster_replay.specs.Journals.{JournalState}
 use Rattle.cluster_replay.specs.Moving.{journal_of, moved}
 use Rattle.cluster_replay.specs.Playing.{IsSound}
-use Rattle.cluster_replay.specs.Slots.{ActsIn, IsIndex, Keeps, KeepsAt, KeepsBut, KeepsWith, ReactsAt, Settles}
+use Rattle.cluster_replay.specs.Slots.{ActsIn, IsIndex, KeepsAt, KeepsBut, KeepsWith, ReactsAt, Settles}
 use Rattle.cluster_replay.proofs.Keeping.{clock_keeps}
-use Rattle.cluster_replay.proofs.Sound.{stands}
+use Rattle.cluster_replay.proofs.Sound.{number_at, stands}
 
 -- ---- the disk
 
@@ -35,9 +35,6 @@ clock_kept v (Some n) stamp = clock_keeps n v stamp
 
 pub clock_keeps_at : (v : DiskView) (s slot : Option NodeValue) (stamp : ℕ) → slot ≡ option_map (clocked stamp) s → KeepsAt v s v slot
 clock_keeps_at v s slot stamp is = subst (λ (y : Option NodeValue). KeepsAt v s v y) (sym is) (clock_kept v s stamp)
-
-number_at : (w : WorldState) (i : ℕ) (n : NodeValue) → IsSound w → IsIndex (Some i) (Some n) w.nodes → n.number ≡ suc i
-number_at w i n sound index = (sound.nodes (suc i) n (ap (λ (y : Option (Option NodeValue)). elim y [ None ↦ None | Some z ↦ z ]) index.0)).number
 
 clocks_by : (w : WorldState) (i : ℕ) (x slot : Option NodeValue) (stamp : ℕ) → IsSound w → IsIndex (Some i) x w.nodes → slot ≡ option_map (clocked stamp) x
     → moved (slice_set w.nodes i slot) (journal_of w) w.disk w ≡ with_clock stamp x w

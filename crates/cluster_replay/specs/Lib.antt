@@ -2,3 +2,4 @@ pub mod Journals
 pub mod Slots
 pub mod Playing
 pub mod Moving
+pub mod Types

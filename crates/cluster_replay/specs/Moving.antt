@@ -1,8 +1,6 @@
 -- What an event changes of a world at a node. Only proofs cite it.
-use Rattle.std.specs.Prelude.{ℕ, List, Option}
+use Rattle.std.specs.Prelude.{List, Option}
 use Rattle.disk_core.specs.Views.{DiskView}
-use Rattle.update_records.specs.Entry.{Entry}
-use Rattle.gum_messages.specs.Messages.{Sent}
 use Rattle.cluster_node.specs.States.{NodeValue}
 use Rattle.cluster_worlds.specs.Worlds.{WorldState}
 use Rattle.cluster_replay.specs.Journals.{JournalState}

@@ -6,8 +6,10 @@ ghost use Rattle.cluster_worlds.specs.Conditions.{IsEvent};
 ghost use Rattle.cluster_worlds.specs.Happening.{begun};
 ghost use Rattle.cluster_worlds.specs.Runs.{Steps};
 ghost use Rattle.cluster_worlds.specs.Worlds.{starts_of};
+ghost use Rattle.world_laws.specs.Typed.{IsTypedEvent};
 ghost use Rattle.cluster_replay.specs.Playing.{Admits, DeclaresTo, Follows, IsInPlace, has_run_out, map_ok, refusal_before};
 
+use crate::reading::read;
 use crate::world::World;
 use cluster_worlds::{BadEvent, Event, Inner, StepFault, Told};
 use disk_core::CrashDisk;
@@ -24,7 +26,9 @@ impl<D: CrashDisk + Drop> World<D> {
         ensures steps { Steps event.now self.old.world (map_ok (λ told. told.items) result) self.new.world }
         ensures fails { self.new.failed ≡ has_run_out result self.old.failed }
         ensures stays_failed { IsTrue self.old.failed → result ≡ Err StepFault.Memory }
+        ensures typed { IsTypedEvent event.now }
     {
+        read(event);
         if self.failed {
             return Err(StepFault::Memory);
         }

@@ -1,7 +1,6 @@
 -- What the world takes in of a node's event is what the protocol's world takes in.
 use Rattle.std.proofs.Common.{◌≡◌, inl, inr, ℕ, ◌+◌, ◌-◌, ◌<◌, ◌≤◌, Bool, true, false, List, [], ◌∷◌, ◌++◌, length, Option, Some, None, nat_eq, if◌then◌else◌, refl, sym, ap, ◌∙◌, subst, append-nil, append_assoc, length-append, add-one, arith}
-use Rattle.std.specs.Prelude.{option_to_list, slice_set, unwrap_or}
-use Rattle.std.specs.List.{AllByRecursion}
+use Rattle.std.specs.Prelude.{IfSome, option_to_list, slice_set, unwrap_or}
 use Rattle.std.specs.Option.{option_flatten}
 use Rattle.gum_messages.specs.Messages.{IsNode, Sent}
 use Rattle.gum_messages.specs.Places.{at_place}
@@ -67,10 +66,6 @@ same_member m n rules log =
     let q : m.rules ≡ n.rules = cc in
     λ i. record { rules = q i; log = sym log i }
 
-all_last : (l : List Update) (u : Update) → AllByRecursion IsUpdate (l ++ u ∷ []) → IsUpdate u
-all_last [] u all = all.0
-all_last (x ∷ l) u all = all_last l u all.1
-
 module _ (cap : ℕ) (b : Bare) (w : World registry_machine) (k : ℕ) (m n : MemberState) (es effects : List Effect) (order : List Entry) (d : DiskView) (a : Abstracts cap (moved b k (Some m) es order d) w) where
   -- nothing is submitted
   nothing_then : (u : Update) → (submit m.rules u) ≡ nothing m.rules → Then (Some u) es m n effects → Leads cap (moved b k (Some n) effects order d) w
@@ -92,26 +87,18 @@ module _ (cap : ℕ) (b : Bare) (w : World registry_machine) (k : ℕ) (m n : Me
         ties = subst (λ (c : Bare). Abstracts cap c (run (Submit k u valid ∷ []) w)) (two_moves b k (Some m) (Some n) es (submit m.rules u).effects effects order d t.sends t.acks) s;
       }
 
-  -- the update that a node has queued is valid
-  queued_valid : (u : Update) → may_submit m.rules ≡ true → Then (Some u) es m n effects → AllByRecursion IsUpdate n.rules.core.queue → IsUpdate u
-  queued_valid u may t all =
-      let goes : (submit m.rules u).node ≡ Some (record (m.rules) { core = (updating.submitted m.rules.core u).0 }) = ap (λ (c : Bool). let o : Out registry_machine = if c then submits m.rules (updating.submitted m.rules.core u) else nothing m.rules in o.node) may in
-      let q : Some n.rules ≡ Some (record (m.rules) { core = (updating.submitted m.rules.core u).0 }) = sym t.rules ∙ goes in
-      let same : n.rules ≡ record (m.rules) { core = (updating.submitted m.rules.core u).0 } = cc in
-      all_last m.rules.core.queue u (subst (λ (x : NodeState registry_machine). AllByRecursion IsUpdate x.core.queue) same all)
-
-  pub then_leads : (queued : Option Update) → Then queued es m n effects → AllByRecursion IsUpdate n.rules.core.queue → Leads cap (moved b k (Some n) effects order d) w
-  then_leads None t all =
+  pub then_leads : (queued : Option Update) → Then queued es m n effects → IfSome queued IsUpdate → Leads cap (moved b k (Some n) effects order d) w
+  then_leads None t valid =
       let same : m ≡ n = same_member m n t.rules t.log in
       record {
         more = [];
         ties = subst (λ (c : Bare). Abstracts cap c w)
             (same_move b k (Some m) (Some n) es effects order d (ap (λ (x : MemberState). Some x) same) (t.sends ∙ append-nil (sent es)) (t.acks ∙ append-nil (acked es))) a;
       }
-  then_leads (Some u) t all = by (may_submit m.rules) refl
+  then_leads (Some u) t valid = by (may_submit m.rules) refl
     where
       by : (c : Bool) → may_submit m.rules ≡ c → Leads cap (moved b k (Some n) effects order d) w
-      by true may = submit_then u (queued_valid u may t all) t
+      by true may = submit_then u valid t
       by false may = nothing_then u (ap (λ (c : Bool). let o : Out registry_machine = if c then submits m.rules (updating.submitted m.rules.core u) else nothing m.rules in o) may) t
 
 -- it has applied no record

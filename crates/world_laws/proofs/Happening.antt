@@ -1,9 +1,8 @@
 -- Each event of the world leads, by events of the protocol, to a world that is tied to the one behind it.
-use Rattle.std.proofs.Common.{◌≡◌, inl, ℕ, ◌-◌, Bool, true, false, List, [], ◌∷◌, ◌++◌, Option, Some, None, Result, Ok, nat_eq, if◌then◌else◌, refl, sym, ap, ◌∙◌, subst, append-nil, arith}
+use Rattle.std.proofs.Common.{◌≡◌, inl, ℕ, ◌-◌, Bool, true, false, List, [], ◌∷◌, ◌++◌, Option, Some, None, Result, Ok, if◌then◌else◌, refl, sym, ap, ◌∙◌, subst, append-nil}
 use Rattle.std.specs.Prelude.{is_some, option_to_list, slice_set}
 use Rattle.std.specs.declared.alloc.AllocError.{AllocError}
-use Rattle.std.specs.List.{AllByRecursion}
-use Rattle.std.specs.Option.{option_flatten}
+use Rattle.wire_fields.specs.Numbers.{IsBytes}
 use Rattle.disk_core.specs.Crashes.{Crashed}
 use Rattle.disk_core.specs.Views.{DiskView}
 use Rattle.gum_messages.specs.declared.view.View.{View}
@@ -29,27 +28,32 @@ use Rattle.cluster_node.specs.States.{IsSameNode, NodeValue, RunningNode, client
 use Rattle.cluster_worlds.specs.Happening.{node_with, served_at}
 use Rattle.cluster_worlds.specs.Telling.{absorbed, bereft}
 use Rattle.cluster_worlds.specs.Worlds.{WorldState, node_at, slot_of}
-use Rattle.world_laws.specs.Typed.{IsTyped}
+use Rattle.client_laws.specs.Laws.{QueuesUpdate}
+use Rattle.client_laws.specs.Typed.{AreTyped}
+use Rattle.client_laws.proofs.Events.{batched_typed, connected_typed, hung_up_typed}
 use Rattle.world_laws.proofs.Absorbing.{absorbed_bare, bereft_bare, joins_none, joins_some, then_leads, then_replica}
 use Rattle.world_laws.proofs.Absorbing as absorbing
+use Rattle.world_laws.proofs.Births.{Born, node_born}
 use Rattle.world_laws.proofs.Coming.{Grows, left, left_ok, tells}
 use Rattle.world_laws.proofs.Crashing.{dies}
-use Rattle.world_laws.proofs.Following.{Left, Then, follows_left, hears_then, submits_alone}
-use Rattle.world_laws.proofs.Installing.{install_dies, installs}
+use Rattle.world_laws.proofs.Following.{ComesBorn, Left, Then, follows_left, follows_suffice, hears_then, submits_alone}
+use Rattle.world_laws.proofs.Installing.{install_dies, installs, installs_born}
 use Rattle.world_laws.proofs.Quiet.{die_ties, same_now, still_ties, tick_ties}
-use Rattle.world_laws.proofs.Receiving.{receive_dies, receives}
-use Rattle.world_laws.proofs.Records.{Bounded, Good, run_good}
+use Rattle.world_laws.proofs.Receiving.{receive_dies, receives, receives_born}
+use Rattle.world_laws.proofs.Records.{Bounded, Good, good_keeps, run_good}
 use Rattle.world_laws.proofs.Refusing.{stands_here}
-use Rattle.world_laws.proofs.Saving.{save_dies, saves_to}
-use Rattle.world_laws.proofs.Slots.{Placed, bare_of, member_of, node_set, node_within, placed_set, running_member, slot_cases, slot_is}
+use Rattle.world_laws.proofs.Saving.{save_dies, saves_born, saves_to}
+use Rattle.world_laws.proofs.Slots.{Placed, bare_of, member_of, node_within, placed_set, running_member, slot_is}
 use Rattle.world_laws.proofs.Speaking.{Mute, batched_mute, connected_mute, hung_up_mute}
-use Rattle.world_laws.proofs.Tied.{Abstracts, Bare, left_at, moved}
+use Rattle.world_laws.proofs.Tied.{Abstracts, Bare, left_at, moved, rules_in}
+use Rattle.world_laws.proofs.Typing.{IsTyped, IsTypedSlot, goes_slot, no_typed_slot, stopped_slot, typed_set}
 
 -- What an event has led to.
 pub record Reaches (cap : ℕ) (u : WorldState) (w : World registry_machine) : Type 0 where
   pub more : List Event
   pub ties : Abstracts cap (bare_of u) (run more w)
   pub placed : Placed u
+  pub typed : IsTyped u
 
 -- a node that tells its clients alone
 pub mute_then : (m n : MemberState) (effects : List Effect) → n ≡ m → Mute effects → Then None [] m n effects
@@ -77,7 +81,7 @@ module _ (cap : ℕ) (w : WorldState) (w0 : World registry_machine) (a : Abstrac
   bounded k v n at = t.incs k v n (ap (λ (c : List View). view_in c k) (sym a.chain) ∙ at)
 
   pub quiet : (u : WorldState) → u ≡ w → Reaches cap u w0
-  quiet u e = subst (λ (v : WorldState). Reaches cap v w0) (sym e) (record { more = []; ties = a; placed = p })
+  quiet u e = subst (λ (v : WorldState). Reaches cap v w0) (sym e) (record { more = []; ties = a; placed = p; typed = t })
 
   -- ---- a node that runs there
 
@@ -96,25 +100,17 @@ module _ (cap : ℕ) (w : WorldState) (w0 : World registry_machine) (a : Abstrac
         let number = number_is after same in
         placed_set w (absorbed effects after d w) k (slot_of after) p here (ap (λ (j : ℕ). slice_set w.nodes (j - 1) (slot_of after)) number) p.starts (slot_is after k number)
 
-    typed_behind : (after : NodeValue) (y : RunningNode) (effects : List Effect) (d : DiskView) → IsSameNode nv after → after.running ≡ Some y → IsTyped (absorbed effects after d w) → AllByRecursion IsUpdate y.member.rules.core.queue
-    typed_behind after y effects d same runs typed =
-        let number = number_is after same in
-        let slot : slot_of after ≡ Some after = slot_cases (λ (s : Option NodeValue). s ≡ Some after) after (λ none. absurd (cc (none, runs))) (λ z some. refl) in
-        let found : node_at k (absorbed effects after d w) ≡ Some after =
-        ap (λ (j : ℕ). option_flatten (at_place (slice_set w.nodes (j - 1) (slot_of after)) k)) number
-        ∙ node_set w k k (slot_of after) p here ∙ ap (λ (c : Bool). if c then slot_of after else node_at k w) (self k) ∙ slot in
-        (typed.nodes k after y found runs).updates
-      where
-        self : (k : ℕ) → nat_eq k k ≡ true
-        self k = grind arith
+    typed_behind : (after : NodeValue) (effects : List Effect) (d : DiskView) → IsSameNode nv after → IsTypedSlot (slot_of after) → IsTyped (absorbed effects after d w)
+    typed_behind after effects d same slot =
+        typed_set w (absorbed effects after d w) k (slot_of after) p here t (ap (λ (j : ℕ). slice_set w.nodes (j - 1) (slot_of after)) (number_is after same)) refl slot
 
     -- the node goes on
     goes : (after : NodeValue) (y : RunningNode) (effects : List Effect) (d : DiskView) (before : List Event) (m : MemberState) (es : List Effect) (order : List Entry) (queued : Option Update)
         → IsSameNode nv after → after.running ≡ Some y → Abstracts cap (moved (bare_of w) k (Some m) es order d) (run before w0) → Grows w.order order (Some m) → Then queued es m y.member effects
-        → IsTyped (absorbed effects after d w) → Reaches cap (absorbed effects after d w) w0
-    goes after y effects d before m es order queued same runs ties grows then_ typed =
+        → QueuesUpdate y.clients queued → Reaches cap (absorbed effects after d w) w0
+    goes after y effects d before m es order queued same runs ties grows then_ queues =
         let w1 = run before w0 in
-        let l = then_leads cap (bare_of w) w1 k m y.member es effects order d ties queued then_ (typed_behind after y effects d same runs typed) in
+        let l = then_leads cap (bare_of w) w1 k m y.member es effects order d ties queued then_ queues.update in
         let c : Bare = moved (bare_of w) k (Some y.member) effects order d in
         let g2 : Good (run l.more w1) = run_good l.more w1 (run_good before w0 g) in
         let joins = joins_some cap c (run l.more w1) k m y after w.order order l.ties g2 refl (absorbing.at_self (bare_of w).members k (Some y.member)) runs grows (then_replica queued es effects m y.member then_) in
@@ -125,6 +121,7 @@ module _ (cap : ℕ) (w : WorldState) (w0 : World registry_machine) (a : Abstrac
           ties = subst (λ (v : World registry_machine). Abstracts cap (bare_of (absorbed effects after d w)) v) (sym (run_append before l.more w0))
               (subst (λ (c : Bare). Abstracts cap c (run l.more w1)) (sym is) l.ties);
           placed = placed_behind after effects d same;
+          typed = typed_behind after effects d same (goes_slot after y runs queues.clients);
         }
 
     -- it stops
@@ -140,85 +137,106 @@ module _ (cap : ℕ) (w : WorldState) (w0 : World registry_machine) (a : Abstrac
           more = before;
           ties = subst (λ (c : Bare). Abstracts cap c (run before w0)) (moves ∙ sym is) ties;
           placed = placed_behind after effects d same;
+          typed = typed_behind after effects d same (stopped_slot after runs);
         }
 
     -- an event of its member
     comes : (after : NodeValue) (effects : List Effect) (d : DiskView) (came : Result Told Stop) (m : MemberState) (e : Event)
         → IsSameNode nv after → Abstracts cap (moved (bare_of w) k (left came m) (tells came) (happens w0 e).log.order d) (happens w0 e) → Grows w.order (happens w0 e).log.order (left came m)
-        → Left came m after.running effects → IsTyped (absorbed effects after d w) → Reaches cap (absorbed effects after d w) w0
-    comes after effects d came m e same ties grows is typed = by after.running refl is
+        → Left came m after.running effects → Reaches cap (absorbed effects after d w) w0
+    comes after effects d came m e same ties grows is = by after.running refl is
       where
         by : (r : Option RunningNode) → after.running ≡ r → Left came m r effects → Reaches cap (absorbed effects after d w) w0
         by (Some y) runs l =
             let ok = left_ok came m l.0 l.1 in
             goes after y effects d (e ∷ []) m (tells came) (happens w0 e).log.order l.2 same runs
             (subst (λ (o : Option MemberState). Abstracts cap (moved (bare_of w) k o (tells came) (happens w0 e).log.order d) (happens w0 e)) ok ties)
-            (subst (λ (o : Option MemberState). Grows w.order (happens w0 e).log.order o) ok grows) l.3 typed
+            (subst (λ (o : Option MemberState). Grows w.order (happens w0 e).log.order o) ok grows) l.3 l.4
         by None runs l = stops after effects (tells came) d (e ∷ []) (left came m) (happens w0 e).log.order same runs l.0 ties grows l.1 l.2
 
     -- an event that its log has no part in
     alone : (after : NodeValue) (y : RunningNode) (effects : List Effect) (queued : Option Update) → IsSameNode nv after → after.running ≡ Some y → Then queued [] x.member y.member effects
-        → IsTyped (absorbed effects after w.disk w) → Reaches cap (absorbed effects after w.disk w) w0
-    alone after y effects queued same runs then_ typed =
-        goes after y effects w.disk [] x.member [] w.order queued same runs (still_ties cap (bare_of w) w0 k (Some x.member) a there) (inl refl) then_ typed
+        → QueuesUpdate y.clients queued → Reaches cap (absorbed effects after w.disk w) w0
+    alone after y effects queued same runs then_ queues =
+        goes after y effects w.disk [] x.member [] w.order queued same runs (still_ties cap (bare_of w) w0 k (Some x.member) a there) (inl refl) then_ queues
+
+    clients_typed : AreTyped x.clients
+    clients_typed = t.clients k nv x at running
+
+    -- what clients read of the registry of the member that has done the event, and what they are told
+    born_behind : (came : Result Told Stop) (m : MemberState) (e : Event) (es : List Effect) (order : List Entry) (d : DiskView) → Abstracts cap (moved (bare_of w) k (left came m) es order d) (happens w0 e) → Born came → ComesBorn came m
+    born_behind came m e es order d ties outcome = record {
+      outcome = outcome;
+      keys = λ told ok. node_born (happens w0 e) (good_keeps w0 e g) k m.rules
+          (ties.nodes k ∙ ap (λ (o : Option MemberState). rules_in o) (absorbing.at_self (bare_of w).members k (left came m)) ∙ ap (λ (o : Option MemberState). rules_in o) (left_ok came m told ok));
+    }
 
     -- ---- the events
 
     pub installs_at : (view : ℕ) (v : View) (after : NodeValue) (effects : List Effect) (d : DiskView) → view_in w.chain view ≡ Some v → IsSameNode nv after
-        → NodeInstalls {E = AllocError} w.disk (Some x) v (Ok effects) after.running d → IsTyped (absorbed effects after d w) → Reaches cap (absorbed effects after d w) w0
-    installs_at view v after effects d seen same l typed =
-        let f = follows_left l.came (head_request x) l.member x.clients after.running effects l.follows in
+        → NodeInstalls {E = AllocError} w.disk (Some x) v (Ok effects) after.running d → Reaches cap (absorbed effects after d w) w0
+    installs_at view v after effects d seen same l =
+        let s = follows_suffice l.came (head_request x) l.member x.clients after.running effects l.follows in
         let declared : view_in w0.chain view ≡ Some v = ap (λ (c : List View). view_in c view) a.chain ∙ seen in
-        let c = installs cap (bare_of w) w0 k view v x.member a g bounded declared there l.came l.member d l.event f.0 in
-        comes after effects d l.came l.member (Install k view c.opening) same c.ties c.grows f.1 typed
+        let c = installs cap (bare_of w) w0 k view v x.member a g bounded declared there l.came l.member d l.event s in
+        let e : Event = Install k view c.opening in
+        let born = born_behind l.came l.member e (tells l.came) (happens w0 e).log.order d c.ties (installs_born cap (bare_of w) w0 k view v x.member a g bounded declared there l.came l.member d l.event) in
+        comes after effects d l.came l.member e same c.ties c.grows (follows_left l.came (head_request x) l.member x.clients after.running effects clients_typed born l.follows)
 
     pub receives_at : (number : ℕ) (message : Sent) (after : NodeValue) (effects : List Effect) (d : DiskView) → at_place w.pool number ≡ Some message → message.to ≡ k → IsSameNode nv after
-        → NodeReceives {E = AllocError} w.disk (Some x) message (Ok effects) after.running d → IsTyped (absorbed effects after d w) → Reaches cap (absorbed effects after d w) w0
-    receives_at number message after effects d stands to same l typed =
-        let f = follows_left l.came (head_request x) l.member x.clients after.running effects l.follows in
+        → NodeReceives {E = AllocError} w.disk (Some x) message (Ok effects) after.running d → Reaches cap (absorbed effects after d w) w0
+    receives_at number message after effects d stands to same l =
+        let s = follows_suffice l.came (head_request x) l.member x.clients after.running effects l.follows in
         let pooled : at_place w0.pool number ≡ Some message = ap (λ (ps : List Sent). at_place ps number) a.pool ∙ stands in
         let there' : (bare_of w).members message.to ≡ Some x.member = ap (λ (n : ℕ). member_of (node_at n w)) to ∙ there in
-        let c = receives cap (bare_of w) w0 number message x.member a g bounded pooled there' l.came l.member d l.event f.0 in
-        let u = happens w0 (Deliver number c.answer) in
-        comes after effects d l.came l.member (Deliver number c.answer) same (subst (λ (n : ℕ). Abstracts cap (moved (bare_of w) n (left l.came l.member) (tells l.came) u.log.order d) u) to c.ties) c.grows f.1 typed
+        let c = receives cap (bare_of w) w0 number message x.member a g bounded pooled there' l.came l.member d l.event s in
+        let e : Event = Deliver number c.answer in
+        let u = happens w0 e in
+        let ties = subst (λ (n : ℕ). Abstracts cap (moved (bare_of w) n (left l.came l.member) (tells l.came) u.log.order d) u) to c.ties in
+        let born = born_behind l.came l.member e (tells l.came) u.log.order d ties (receives_born cap (bare_of w) w0 number message x.member a g bounded pooled there' l.came l.member d l.event) in
+        comes after effects d l.came l.member e same ties c.grows (follows_left l.came (head_request x) l.member x.clients after.running effects clients_typed born l.follows)
 
-    pub checks_at : (after : NodeValue) (effects : List Effect) (d : DiskView) → IsSameNode nv after → NodeChecks {E = AllocError} w.disk (Some x) (Ok effects) after.running d → IsTyped (absorbed effects after d w)
-        → Reaches cap (absorbed effects after d w) w0
-    checks_at after effects d same l typed =
-        let f = follows_left l.came (head_request x) l.member x.clients after.running effects l.follows in
-        let c = saves_to cap (bare_of w) w0 k x.member a g bounded there l.came l.member d l.event f.0 in
-        let u = happens w0 (Checkpoint k c.good) in
-        comes after effects d l.came l.member (Checkpoint k c.good) same (subst (λ (order : List Entry). Abstracts cap (moved (bare_of w) k (left l.came l.member) (tells l.came) order d) u) (sym c.ties.order) c.ties) (inl c.ties.order) f.1 typed
+    pub checks_at : (after : NodeValue) (effects : List Effect) (d : DiskView) → IsSameNode nv after → NodeChecks {E = AllocError} w.disk (Some x) (Ok effects) after.running d → Reaches cap (absorbed effects after d w) w0
+    checks_at after effects d same l =
+        let s = follows_suffice l.came (head_request x) l.member x.clients after.running effects l.follows in
+        let c = saves_to cap (bare_of w) w0 k x.member a g bounded there l.came l.member d l.event s in
+        let e : Event = Checkpoint k c.good in
+        let u = happens w0 e in
+        let ties = subst (λ (order : List Entry). Abstracts cap (moved (bare_of w) k (left l.came l.member) (tells l.came) order d) u) (sym c.ties.order) c.ties in
+        let born = born_behind l.came l.member e (tells l.came) u.log.order d ties (saves_born cap (bare_of w) w0 k x.member a g bounded there l.came l.member d l.event) in
+        comes after effects d l.came l.member e same ties (inl c.ties.order) (follows_left l.came (head_request x) l.member x.clients after.running effects clients_typed born l.follows)
 
-    pub hears_at : (conn : ℕ) (piece : List ℕ) (after : NodeValue) (effects : List Effect) → IsSameNode nv after → HearsBytes conn piece (Some x) after.running effects → IsTyped (absorbed effects after w.disk w)
-        → Reaches cap (absorbed effects after w.disk w) w0
-    hears_at conn piece after effects same h typed = by after.running refl h
+    pub hears_at : (conn : ℕ) (piece : List ℕ) (after : NodeValue) (effects : List Effect) → IsSameNode nv after → IsBytes piece → HearsBytes conn piece (Some x) after.running effects → Reaches cap (absorbed effects after w.disk w) w0
+    hears_at conn piece after effects same bytes h = by after.running refl h
       where
         by : (r : Option RunningNode) → after.running ≡ r → HearsBytes conn piece (Some x) r effects → Reaches cap (absorbed effects after w.disk w) w0
         by None runs h = absurd h
-        by (Some y) runs h = let s = hears_then conn piece x.member y.member x.clients y.clients effects h in alone after y effects s.0 same runs s.1 typed
+        by (Some y) runs h =
+            let s = hears_then conn piece x.member y.member x.clients y.clients effects clients_typed (node_born w0 g k x.member.rules (a.nodes k ∙ ap (λ (o : Option MemberState). rules_in o) there)) bytes h in
+            alone after y effects s.0 same runs s.1 s.2
 
     tells_at : (after : NodeValue) (y : RunningNode) (effects : List Effect) (changed : Clients × Option Effect) → IsSameNode nv after → after.running ≡ Some y → ClientsTell x changed y effects → Mute (option_to_list changed.1)
-        → IsTyped (absorbed effects after w.disk w) → Reaches cap (absorbed effects after w.disk w) w0
+        → AreTyped changed.0 → Reaches cap (absorbed effects after w.disk w) w0
     tells_at after y effects changed same runs told mutes typed =
-        alone after y effects None same runs (mute_then x.member y.member effects (ap (λ (r : RunningNode). r.member) told.0) (subst Mute (sym told.1) mutes)) typed
+        alone after y effects None same runs (mute_then x.member y.member effects (ap (λ (r : RunningNode). r.member) told.0) (subst Mute (sym told.1) mutes))
+        (record { clients = subst (λ (s : Clients). AreTyped s) (sym (ap (λ (r : RunningNode). r.clients) told.0)) typed; update = tt })
 
-    pub hangs_up_at : (conn : ℕ) (after : NodeValue) (effects : List Effect) → IsSameNode nv after → HangsUp conn (Some x) after.running effects → IsTyped (absorbed effects after w.disk w) → Reaches cap (absorbed effects after w.disk w) w0
-    hangs_up_at conn after effects same h typed = by after.running refl h
+    pub hangs_up_at : (conn : ℕ) (after : NodeValue) (effects : List Effect) → IsSameNode nv after → HangsUp conn (Some x) after.running effects → Reaches cap (absorbed effects after w.disk w) w0
+    hangs_up_at conn after effects same h = by after.running refl h
       where
         by : (r : Option RunningNode) → after.running ≡ r → HangsUp conn (Some x) r effects → Reaches cap (absorbed effects after w.disk w) w0
         by None runs h = absurd h
-        by (Some y) runs h = tells_at after y effects (hung_up conn (client_at conn x.clients) x.clients) same runs h (hung_up_mute conn x.clients) typed
+        by (Some y) runs h = tells_at after y effects (hung_up conn (client_at conn x.clients) x.clients) same runs h (hung_up_mute conn x.clients) (hung_up_typed x.clients conn clients_typed)
 
-    pub connects_at : (conn : ℕ) (after : NodeValue) (effects : List Effect) → IsSameNode nv after → Connects conn (Some x) after.running effects → IsTyped (absorbed effects after w.disk w) → Reaches cap (absorbed effects after w.disk w) w0
-    connects_at conn after effects same h typed = by after.running refl h
+    pub connects_at : (conn : ℕ) (after : NodeValue) (effects : List Effect) → IsSameNode nv after → Connects conn (Some x) after.running effects → Reaches cap (absorbed effects after w.disk w) w0
+    connects_at conn after effects same h = by after.running refl h
       where
         by : (r : Option RunningNode) → after.running ≡ r → Connects conn (Some x) r effects → Reaches cap (absorbed effects after w.disk w) w0
         by None runs h = absurd h
-        by (Some y) runs h = tells_at after y effects (connected conn x.clients) same runs h (connected_mute conn x.clients) typed
+        by (Some y) runs h = tells_at after y effects (connected conn x.clients) same runs h (connected_mute conn x.clients) (connected_typed x.clients conn clients_typed)
 
-    pub ticks_at : (after : NodeValue) (effects : List Effect) → IsSameNode nv after → Ticks (Some x) after.running effects → IsTyped (absorbed effects after w.disk w) → Reaches cap (absorbed effects after w.disk w) w0
-    ticks_at after effects same h typed = by after.running refl h
+    pub ticks_at : (after : NodeValue) (effects : List Effect) → IsSameNode nv after → Ticks (Some x) after.running effects → Reaches cap (absorbed effects after w.disk w) w0
+    ticks_at after effects same h = by after.running refl h
       where
         by : (r : Option RunningNode) → after.running ≡ r → Ticks (Some x) r effects → Reaches cap (absorbed effects after w.disk w) w0
         by None runs h = absurd h
@@ -229,18 +247,20 @@ module _ (cap : ℕ) (w : WorldState) (w0 : World registry_machine) (a : Abstrac
               log = ap (λ (r : RunningNode). r.member.log) h.0;
               sends = ap sent h.1 ∙ sym (append-nil (sent es));
               acks = ap acked h.1 ∙ sym (append-nil (acked es));
-            }) typed
+            }) (record { clients = subst (λ (r : RunningNode). AreTyped r.clients) (sym h.0) clients_typed; update = tt })
 
-    pub batches_at : (update : Update) (after : NodeValue) (effects : List Effect) → IsSameNode nv after → Batches update (Some x) after.running effects → IsTyped (absorbed effects after w.disk w) → Reaches cap (absorbed effects after w.disk w) w0
-    batches_at update after effects same h typed = by after.running refl h
+    pub batches_at : (update : Update) (after : NodeValue) (effects : List Effect) → IsSameNode nv after → IsUpdate update → Batches update (Some x) after.running effects → Reaches cap (absorbed effects after w.disk w) w0
+    batches_at update after effects same valid h = by after.running refl h
       where
-        refused : (y : RunningNode) (o : Option Effect) → after.running ≡ Some y → Mute (option_to_list o) → Refuses o update x.member y.member effects → Reaches cap (absorbed effects after w.disk w) w0
-        refused y None runs mutes s = alone after y effects (Some update) same runs (submits_alone update x.member y.member effects s) typed
-        refused y (Some e) runs mutes r = alone after y effects None same runs (mute_then x.member y.member effects r.0 (subst Mute (sym r.1) mutes)) typed
+        refused : (y : RunningNode) (o : Option Effect) → after.running ≡ Some y → AreTyped y.clients → Mute (option_to_list o) → Refuses o update x.member y.member effects → Reaches cap (absorbed effects after w.disk w) w0
+        refused y None runs typed mutes s = alone after y effects (Some update) same runs (submits_alone update x.member y.member effects s) (record { clients = typed; update = valid })
+        refused y (Some e) runs typed mutes r = alone after y effects None same runs (mute_then x.member y.member effects r.0 (subst Mute (sym r.1) mutes)) (record { clients = typed; update = tt })
 
         by : (r : Option RunningNode) → after.running ≡ r → Batches update (Some x) r effects → Reaches cap (absorbed effects after w.disk w) w0
         by None runs h = absurd h
-        by (Some y) runs h = refused y (batched x.member.rules.core.is_open x.clients).1 runs (batched_mute x.member.rules.core.is_open x.clients) h.submits
+        by (Some y) runs h =
+            refused y (batched x.member.rules.core.is_open x.clients).1 runs (subst (λ (s : Clients). AreTyped s) (sym h.clients) (batched_typed x.clients x.member.rules.core.is_open clients_typed))
+            (batched_mute x.member.rules.core.is_open x.clients) h.submits
 
     -- ---- the node is gone
 
@@ -251,6 +271,7 @@ module _ (cap : ℕ) (w : WorldState) (w0 : World registry_machine) (a : Abstrac
           more = before;
           ties = subst (λ (c : Bare). Abstracts cap c (run before w0)) (sym (bereft_bare w k nv d p here number)) ties;
           placed = placed_set w (bereft nv d w) k None p here (ap (λ (j : ℕ). slice_set w.nodes (j - 1) None) number) p.starts (λ m e. absurd (cc));
+          typed = typed_set w (bereft nv d w) k None p here t (ap (λ (j : ℕ). slice_set w.nodes (j - 1) None) number) refl no_typed_slot;
         }
 
     pub die_at : Reaches cap (bereft nv w.disk w) w0

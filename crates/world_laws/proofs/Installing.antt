@@ -37,6 +37,7 @@ use Rattle.cluster_member.specs.declared.stop.Stop.TheVariants as stop
 use Rattle.cluster_member.specs.Events.{Comes, Enters, Installs, Recovers, log_opened, recovered_as}
 use Rattle.cluster_member.specs.States.{MemberState}
 use Rattle.member_rules.specs.declared.told.Told.{Told}
+use Rattle.world_laws.proofs.Births.{Born, absorb_born, silent_born}
 use Rattle.world_laws.proofs.Coming.{Grows, Sufficed, comes_left, halted, kept_ok, left, left_ok, own_left, own_none, tells, went_on}
 use Rattle.world_laws.proofs.Crashing.{crash_leaves, still_owns}
 use Rattle.world_laws.proofs.Opening.{IsAll, IsOpened, dies_opening, open_either, open_stands, open_tells, opens, raised_refines, recovered_all}
@@ -244,22 +245,44 @@ module _ (cap : ℕ) (b : Bare) (w : World registry_machine) (n number : ℕ) (v
       recovered_is : (r : recovered.Recovered) (log : LogValue) (order : List Entry) → IsAll w.log.cap order r → recovered_as (entered v m.rules) (Ok (log, r)) ≡ recovers (entered v m.rules) w.log.cap order
       recovered_is r log order all = λ i. recovers_from (entered v m.rules) (record { count = all.count i; cap = all.cap_is i; last = all.last i }) (all.registry i)
 
-      taken : (came : Result Told Stop) (y : MemberState) (d : DiskView) (log : LogValue) (r : recovered.Recovered) (found : Found) → HasOpened v.number b.disk log r d → OpenCalls v.number b.disk (Ok found) d
-          → Comes (recovered_as (entered v m.rules) (Ok (log, r))) came y.rules → OnOk came (y.log ≡ Some log) → Sufficed came → Came came y d
-      taken came y d log r found h calls comes kept s =
+      -- what the log was found to hold, and the world behind the event
+      record Taken (came : Result Told Stop) (y : MemberState) (d : DiskView) (log : LogValue) (x : Found) : Type 0 where
+        opened : IsOpened w.log v.number d log x
+        claim : log.claim ≡ v.number
+        is : install w n m.rules v (Recovered opened.found)
+            ≡ absorb n (recovers (entered v m.rules) w.log.cap (found_log opened.found w.log).order) (with_log (claimed v.number (found_log opened.found w.log)) w)
+        good : Good (absorb n (recovers (entered v m.rules) w.log.cap (found_log opened.found w.log).order) (with_log (claimed v.number (found_log opened.found w.log)) w))
+        comes : Comes (recovers (entered v m.rules) w.log.cap (found_log opened.found w.log).order) came y.rules
+
+      takes : (came : Result Told Stop) (y : MemberState) (d : DiskView) (log : LogValue) (r : recovered.Recovered) (found : Found) (h : HasOpened v.number b.disk log r d) → OpenCalls v.number b.disk (Ok found) d
+          → Comes (recovered_as (entered v m.rules) (Ok (log, r))) came y.rules → Taken came y d log h.found
+      takes came y d log r found h calls comes =
           let claim : log.claim ≡ v.number = ap (λ (t : LogValue). t.claim) h.value in
           let o : IsOpened w.log v.number d log h.found = opens w.log b.disk d v.number log h.found found a.refines calls (h.stands a.refines.tells) claim h.held in
           let opening : Opening = Recovered o.found in
           let f : Log = found_log o.found w.log in
-          let l : Log = claimed v.number f in
-          let u : World registry_machine = absorb n (recovers (entered v m.rules) w.log.cap f.order) (with_log l w) in
+          let u : World registry_machine = absorb n (recovers (entered v m.rules) w.log.cap f.order) (with_log (claimed v.number f) w) in
           let is : install w n m.rules v opening ≡ u = recovers_in_ w n m.rules v opening in_ locks ∙ recover_opens w n m.rules v opening high in
           let whole : happens w (Install n number opening) ≡ u = install_is w n number m.rules v opening node_is view ∙ is in
-          let there' : Good u = subst (λ (t : World registry_machine). Good t) whole (good_keeps w (Install n number opening) g) in
-          let all : AllByRecursion IsRecord f.order = all_records u there' bd in
+          let good : Good u = subst (λ (t : World registry_machine). Good t) whole (good_keeps w (Install n number opening) g) in
+          let all : AllByRecursion IsRecord f.order = all_records u good bd in
           let order : IsAll w.log.cap f.order r = recovered_all w.log.cap f.order h.found r all (subst (λ (size : ℕ). IsOrderOf size f.order h.found) o.as_.cap_is o.as_.is) h.recovered in
+          record { opened = o; claim = claim; is = is; good = good; comes = subst (λ (t : Out registry_machine). Comes t came y.rules) (recovered_is r log f.order order) comes }
+
+      taken : (came : Result Told Stop) (y : MemberState) (d : DiskView) (log : LogValue) (r : recovered.Recovered) (found : Found) → HasOpened v.number b.disk log r d → OpenCalls v.number b.disk (Ok found) d
+          → Comes (recovered_as (entered v m.rules) (Ok (log, r))) came y.rules → OnOk came (y.log ≡ Some log) → Sufficed came → Came came y d
+      taken came y d log r found h calls comes kept s =
+          let t : Taken came y d log h.found = takes came y d log r found h calls comes in
+          let claim : log.claim ≡ v.number = t.claim in
+          let o : IsOpened w.log v.number d log h.found = t.opened in
+          let opening : Opening = Recovered o.found in
+          let f : Log = found_log o.found w.log in
+          let l : Log = claimed v.number f in
+          let u : World registry_machine = absorb n (recovers (entered v m.rules) w.log.cap f.order) (with_log l w) in
+          let is : install w n m.rules v opening ≡ u = t.is in
+          let there' : Good u = t.good in
           let out : Out registry_machine = recovers (entered v m.rules) w.log.cap f.order in
-          let c = comes_left out came y s (subst (λ (t : Out registry_machine). Comes t came y.rules) (recovered_is r log f.order order) comes) in
+          let c = comes_left out came y s t.comes in
           let nz : number_of (entered v m.rules) ≢ 0 = λ e. numbered (sym (ap (λ (t : View). t.number) entered_view) ∙ e) in
           let facts : (told : Told) → came ≡ Ok told → (joining.is_ready y.rules.join ≡ true) × (y.rules.join.view ≡ v) × (y.rules.join.node ≡ m.rules.join.node) = λ told ok.
           let goes : out.node ≡ Some y.rules = c.0 ∙ ap rules_in (left_ok came y told ok) in
@@ -316,6 +339,47 @@ module _ (cap : ℕ) (b : Bare) (w : World registry_machine) (n number : ℕ) (v
       by true true in_ locks h = at_locker in_ locks came y d h s
       by true false in_ other h = enters came y d in_ other h s
       by false l out other h = stays came y d out h s
+
+  -- ---- what is told of an acknowledged head
+
+  recovers_born : (in_ : takes_view m.rules v ≡ true) (locks : is_locker v.members m.rules.join.node ≡ true) (high : nat_lt v.number w.log.held ≡ false) (came : Result Told Stop) (y : MemberState) (d : DiskView)
+      → Recovers b.disk m v came y d → Born came
+  recovers_born in_ locks high came y d r = by r.opened r.answer r.opens r.calls r.comes_of r.comes
+    where
+      by : (opened : Result (LogValue × recovered.Recovered) RecordFault) (answer : Result Found OpenFault) → OpensTo v.number b.disk opened d → OpenCalls v.number b.disk answer d → ComesOf answer opened
+          → Comes (recovered_as (entered v m.rules) opened) came y.rules → Born came
+      by (Ok (log, rec)) (Ok found) opens calls of_ comes =
+          let t = takes in_ locks high came y d log rec found opens calls comes in
+          let f : Log = found_log t.opened.found w.log in
+          absorb_born (with_log (claimed v.number f) w) n m.rules (recovers (entered v m.rules) w.log.cap f.order) came y.rules node_is t.good t.comes
+      by (Ok (log, rec)) (Err fault) opens calls of_ comes = absurd (cc)
+      by (Err fault) answer opens calls of_ comes =
+          silent_born (halts (cause_for fault)) came y.rules refl (subst (λ (o : Out registry_machine). Comes o came y.rules) (refused_as (entered v m.rules) fault) comes)
+
+  fenced_born : (low : nat_lt v.number w.log.held ≡ true) (came : Result Told Stop) (y : MemberState) (d : DiskView) → Recovers b.disk m v came y d → Born came
+  fenced_born low came y d r = by r.opened r.answer r.calls r.comes_of r.comes
+    where
+      by : (opened : Result (LogValue × recovered.Recovered) RecordFault) (answer : Result Found OpenFault) → OpenCalls v.number b.disk answer d → ComesOf answer opened
+          → Comes (recovered_as (entered v m.rules) opened) came y.rules → Born came
+      by (Ok opened) answer calls of_ comes =
+          let lt : v.number < b.disk.current.held = let n = lt_true v.number w.log.held low in omega (arith, n, a.refines.now.0) in
+          absurd (let f = open_fenced v.number b.disk d answer lt calls in not_fenced answer opened of_ f.0)
+        where
+          not_fenced : (answer : Result Found OpenFault) (opened : LogValue × recovered.Recovered) → ComesOf answer (Ok opened) → answer ≡ Err (open_faults.Fenced b.disk.current.held) → ⊥
+          not_fenced (Ok found) opened of_ e = cc
+          not_fenced (Err fault) opened of_ e = cc
+      by (Err fault) answer calls of_ comes =
+          silent_born (halts (cause_for fault)) came y.rules refl (subst (λ (o : Out registry_machine). Comes o came y.rules) (refused_as (entered v m.rules) fault) comes)
+
+  pub installs_born : (came : Result Told Stop) (y : MemberState) (d : DiskView) → Installs b.disk m v came y d → Born came
+  installs_born came y d i = by (takes_view m.rules v) (is_locker v.members m.rules.join.node) (nat_lt v.number w.log.held) refl refl refl i
+    where
+      by : (t l f : Bool) → takes_view m.rules v ≡ t → is_locker v.members m.rules.join.node ≡ l → nat_lt v.number w.log.held ≡ f
+          → MatchBool t (MatchBool l (Recovers b.disk m v came y d) (Enters b.disk (nothing (entered v m.rules)) None came y d)) (Enters b.disk (nothing m.rules) m.log came y d) → Born came
+      by true true true in_ locks low h = fenced_born low came y d h
+      by true true false in_ locks high h = recovers_born in_ locks high came y d h
+      by true false f in_ other fenced h = silent_born (nothing (entered v m.rules)) came y.rules refl h.comes
+      by false l f out other fenced h = silent_born (nothing m.rules) came y.rules refl h.comes
 
   -- ---- the node dies inside it
 

@@ -1,6 +1,8 @@
 pub mod Requests
 pub mod Records
 pub mod Deciding
+pub mod Births
+pub mod Typing
 pub mod Recovering
 pub mod Tied
 pub mod Quiet
@@ -20,3 +22,4 @@ pub mod Happening
 pub mod Running
 pub mod Promising
 pub mod Orders
+pub mod Lengthening

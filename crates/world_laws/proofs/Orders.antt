@@ -107,7 +107,7 @@ pub grew : (events : List Event) (w : WorldState) (tolds : List (List Told)) (u 
 unfolding RunsTyped
 grew [] w [] u h = record { rest = []; order = ap (λ (v : WorldState). v.order) h ∙ sym (append-nil w.order); told = refl }
 grew (e ∷ es) w (told ∷ tolds) u h =
-    let one : GrewBy w.order told h.0.order = does_grew e (begun h.2.1.disk w) told h.0 h.2.1.does in
+    let one : GrewBy w.order told h.0.order = does_grew e (begun h.3.1.disk w) told h.0 h.3.1.does in
     let others : Grew h.0 tolds u = grew es h.0 tolds u h.4 in
     record {
       rest = one.rest ++ others.rest;

@@ -36,6 +36,7 @@ use Rattle.cluster_member.specs.Events.{Comes, Receives}
 use Rattle.cluster_member.specs.Logging.{Logs, answer_of, answer_to, last_bytes, log_after, log_left, state_bytes}
 use Rattle.cluster_member.specs.States.{MemberState}
 use Rattle.member_rules.specs.declared.told.Told.{Told}
+use Rattle.world_laws.proofs.Births.{Born, absorb_born}
 use Rattle.world_laws.proofs.Coming.{Grows, Sufficed, WentOn, comes_left, halted, kept_ok, left, left_keeps, left_ok, no_memory, own_left, own_none, went_on}
 use Rattle.world_laws.proofs.Coming as coming
 use Rattle.world_laws.proofs.Deciding.{LogsNone, logs_open, receive_decides}
@@ -307,6 +308,15 @@ module _ (cap : ℕ) (b : Bare) (w : World registry_machine) (k : ℕ) (p : Sent
       by (Some e) (Some added) is logs comes memory kept = logs_one e logs.0 is logs.1 came y d added logs.2 comes (λ q. memory (ap (λ (x : Result LogValue AddFault). Some x) q)) kept s
       by None (Some added) is logs comes memory kept = absurd logs
       by (Some e) None is logs comes memory kept = absurd logs
+
+  -- what is told of an acknowledged head, whatever the log answered
+  pub receives_born : (came : Result Told Stop) (y : MemberState) (d : DiskView) → Receives b.disk m p came y d → Born came
+  receives_born came y d r =
+      let answer : Answer = answer_to r.added in
+      let out : Out registry_machine = (receive m.rules p w.log.held answer).out in
+      let comes : Comes out came y.rules = subst (λ (held : ℕ). Comes (receive m.rules p held answer).out came y.rules) a.refines.now.0 r.comes in
+      absorb_born (logs (number_of m.rules) (receive m.rules p w.log.held answer) w) p.to m.rules out came y.rules node_is
+      (subst (λ (u : World registry_machine). Good u) (is_behind answer) (good_keeps w (Deliver k answer) g)) comes
 
   -- ---- the node dies inside it
 

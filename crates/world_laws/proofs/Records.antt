@@ -12,7 +12,9 @@ use Rattle.update_records.proofs.RecordLaws.{is_valid}
 use Rattle.view_reconcile.specs.Chains.{view_in}
 use Rattle.cluster_rules.specs.Worlds.{Event, World, happens, run}
 use Rattle.cluster_laws.proofs.Applying.{eq_true}
+use Rattle.cluster_laws.proofs.Answering.{Answering}
 use Rattle.cluster_laws.proofs.Inv.{Stands}
+use Rattle.cluster_laws.proofs.Replies.{happens_answers}
 use Rattle.cluster_laws.proofs.Shapes.{Shapes, shapes_keep}
 use Rattle.cluster_laws.proofs.Theorem.{Holds, happens_holds}
 use Rattle.registry_machine.specs.Machine.{IsFitting, registry_machine}
@@ -25,9 +27,10 @@ pub record Good (w : World registry_machine) : Type 0 where
   pub holds : Holds registry_machine w
   pub shapes : Shapes w
   pub few : Few w
+  pub answering : Answering w
 
 pub good_keeps : (w : World registry_machine) (e : Event) → Good w → Good (happens w e)
-good_keeps w e g = record { holds = happens_holds registry_machine is_machine w e g.holds; shapes = shapes_keep w e g.shapes; few = few_keep w e g.holds.invariant g.few }
+good_keeps w e g = record { holds = happens_holds registry_machine is_machine w e g.holds; shapes = shapes_keep w e g.shapes; few = few_keep w e g.holds.invariant g.few; answering = happens_answers is_machine w e g.holds g.answering }
 
 pub run_good : (es : List Event) (w : World registry_machine) → Good w → Good (run es w)
 run_good [] w g = g

@@ -27,6 +27,7 @@ use Rattle.cluster_member.specs.Events.{Comes, WritesCheckpoint}
 use Rattle.cluster_member.specs.Logging.{LogsState, is_good, is_written, last_bytes, log_after, log_left, state_bytes}
 use Rattle.cluster_member.specs.States.{MemberState}
 use Rattle.member_rules.specs.declared.told.Told.{Told}
+use Rattle.world_laws.proofs.Births.{Born, silent_born}
 use Rattle.world_laws.proofs.Coming.{Sufficed, comes_left, halted, kept_ok, left, left_keeps, own_left, own_none, tells, went_on}
 use Rattle.world_laws.proofs.Crashing.{dies}
 use Rattle.world_laws.proofs.Quiet.{at_is, node_at, others_apart, quiet_ties, same_now}
@@ -165,6 +166,19 @@ module _ (cap : ℕ) (b : Bare) (w : World registry_machine) (n : ℕ) (m : Memb
               own = none_own w.log x;
               others = apart_at high x;
             }))
+
+  -- no head is acknowledged
+  checks_none : (x : NodeState registry_machine) (held : ℕ) (good : Bool) → (checkpoint x held good).outcome ≡ None
+  checks_none x held good = by (x.core.is_open && updating.locks x.core) (nat_lt (number_of x) held) good
+    where
+      by : (opened low good : Bool) → (if opened then (if low then halts (halt.Fenced held) else (if good then nothing x else halts halt.Disk)) else nothing x).outcome ≡ None
+      by true true good = refl
+      by true false true = refl
+      by true false false = refl
+      by false low good = refl
+
+  pub saves_born : (came : Result Told Stop) (y : MemberState) (d : DiskView) → WritesCheckpoint b.disk m came y d → Born came
+  saves_born came y d r = silent_born (checkpoint m.rules b.disk.current.held (is_good r.written)) came y.rules (checks_none m.rules b.disk.current.held (is_good r.written)) r.comes
 
   pub saves_to : (came : Result Told Stop) (y : MemberState) (d : DiskView) → WritesCheckpoint b.disk m came y d → Sufficed came → Came came y d
   saves_to came y d r s =

@@ -1,5 +1,5 @@
-use Rattle.std.proofs.Common.{◌≡◌, ◌+◌, ◌-◌, ◌<◌, ◌≤◌, ap, sym, subst, arith}
-use Rattle.cluster_worlds.specs.Worlds.{WorldState, starts_of}
+use Rattle.std.proofs.Common.{◌≡◌, ◌+◌, ◌-◌, ◌<◌, ◌≤◌, ap, arith}
+use Rattle.cluster_worlds.specs.Worlds.{starts_of}
 use Rattle.cluster_replay.specs.Playing.{Played}
 use Rattle.cluster_replay.proofs.Beginning.{sound_start}
 use Rattle.cluster_replay.proofs.world.World.start.Goals as goal
