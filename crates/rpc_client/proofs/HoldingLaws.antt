@@ -254,12 +254,12 @@ is_new = record { items = []; side = refl; fed = holds_nothing sides.Client; sta
 
 -- ---- the stream grows
 
-reads_more : (stream piece : List ℕ) (frames : List (List ℕ)) (given : List Item) (left : _) (rest : List ℕ)
+pub reads_more : (stream piece : List ℕ) (frames : List (List ℕ)) (given : List Item) (left : _) (rest : List ℕ)
     → Reads sides.Client stream frames given left rest → Reads sides.Client (stream ++ piece) frames given left (rest ++ piece)
 reads_more stream piece frames given left rest reads =
     record { whole = ap (λ (l : List ℕ). l ++ piece) reads.whole ∙ append_assoc _ rest piece; runs = reads.runs }
 
-stands_more : (stream piece : List ℕ) (before : List Item) (item : Item) (place : ℕ) → StandsAt stream before item place → StandsAt (stream ++ piece) before item place
+pub stands_more : (stream piece : List ℕ) (before : List Item) (item : Item) (place : ℕ) → StandsAt stream before item place → StandsAt (stream ++ piece) before item place
 stands_more stream piece before item place s = record {
   frames = s.frames;
   frame = s.frame;

@@ -4,4 +4,6 @@ pub mod StreamGrowth
 pub mod TurnLaws
 pub mod LineCounts
 pub mod MoreCommands
+pub mod FaultLaws
+pub mod OneExchange
 pub mod ProgressLaws

@@ -1,5 +1,5 @@
 -- An item comes to two lines at most.
-use Rattle.std.proofs.Common.{◌≡◌, ℕ, ◌≤◌, Bool, true, false, ltb, eqb, List, [], ◌∷◌, ◌++◌, length, Option, None, Some, refl, sym, subst, arith}
+use Rattle.std.proofs.Common.{◌≡◌, ℕ, ◌≤◌, Bool, true, false, ltb, eqb, List, [], ◌∷◌, length, Option, None, Some, refl, subst, arith}
 use Rattle.std.specs.Prelude.{if◌then◌else◌}
 use Rattle.ndr_values.specs.declared.handle.WireHandle.{WireHandle}
 use Rattle.clusapi_stubs.specs.declared.input.In.{In}
@@ -12,12 +12,12 @@ use Rattle.client_exchange.specs.declared.replies.Reply.TheVariants.{Fault, Resu
 use Rattle.client_exchange.specs.declared.stage.Stage.{Stage}
 use Rattle.client_exchange.specs.declared.stage.Stage.TheVariants.{Acting, Binding, Closing, Listing, Resting, Rooting, Starting}
 use Rattle.client_exchange.specs.declared.steps.Step.{Step}
-use Rattle.client_exchange.specs.Exchange.{Answered, answered, answered_at, bound, commanded, follows, makes, replied, root_in, rooted, rooted_by, stepped}
+use Rattle.client_exchange.specs.Exchange.{Answered, answered, answered_at, bound, commanded, makes, replied, root_in, rooted, rooted_by, stepped}
 use Rattle.client_exchange.specs.Replies.{accepted_size, reply_in}
 use Rattle.client_exchange.specs.Stages.{AskingState}
 use Rattle.client_exchange.specs.Steps.{acted, fails, listed, lists, resulted, started, status_of, step_of, succeeded}
 use Rattle.client_exchange.specs.Steps as steps
-use Rattle.client_exchange.specs.Texts.{fault_line, status_line}
+use Rattle.client_exchange.specs.Texts.{status_line}
 
 -- ---- a step
 

@@ -1,6 +1,6 @@
 -- Further commands change nothing of what comes before them.
 use Rattle.std.proofs.Common.{◌≡◌, Bool, true, false, List, [], ◌∷◌, ◌++◌, Option, None, Some, refl, sym, ap, ◌∙◌, subst, append_assoc}
-use Rattle.std.specs.Prelude.{ℕ, if◌then◌else◌, option_to_list}
+use Rattle.std.specs.Prelude.{ℕ, option_to_list}
 use Rattle.std.proofs.lemmas.List.{append-nil}
 use Rattle.rpc_calls.specs.declared.intake_fault.IntakeFault.{IntakeFault}
 use Rattle.rpc_calls.specs.declared.item.Item.{Item}
@@ -11,7 +11,7 @@ use Rattle.client_exchange.specs.Stages.{AskingState, fresh, is_resting}
 use Rattle.rpc_client.specs.declared.ask.Ask.{Ask}
 use Rattle.rpc_client.specs.declared.ask.Ask.TheVariants.{Write}
 use Rattle.rpc_client.specs.Clients.{Holds, Kept, still_to_give}
-use Rattle.rpc_client.specs.Exchange.{Begins, End, Exchange, GivesFirst, IsEnd, fault, more, nothing}
+use Rattle.rpc_client.specs.Exchange.{Begins, End, Exchange, IsEnd, fault, more, nothing}
 use Rattle.rpc_client.specs.Runs.{Ending, Run, behind, goes_on, refuses, rests, runs, says, stops, waits, whole_run}
 use Rattle.rpc_client.proofs.HoldingLaws.{front_of}
 use Rattle.rpc_client.proofs.RunLaws.{answered_run, awaiting_run, refused_run, resting_run, started_run}
@@ -43,7 +43,7 @@ extends_as a b c d one two e = subst (λ (r : Run). Extends r d) (sym one) (subs
 abbrev Grows : List Item → AskingState → List Command → List Command → Type 0
 Grows items s commands further = Extends (runs s commands items) (runs s (commands ++ further) items)
 
-at_end : (s : AskingState) (commands : List Command) → is_resting s.stage ≡ false → runs s commands [] ≡ stops waits
+pub at_end : (s : AskingState) (commands : List Command) → is_resting s.stage ≡ false → runs s commands [] ≡ stops waits
 unfolding goes_on
 at_end s commands e = awaiting_run s commands [] e ∙ rw e refl
 
@@ -86,7 +86,7 @@ IsAwaited nothing = ⊥
 IsAwaited more = Unit {0}
 IsAwaited (fault place) = Unit {0}
 
-awaited : (end : End) (stream : List ℕ) (items : List Item) (found : Option IntakeFault) (ending : Ending) → IsAwaited end → IsEnd end stream items found ending → ¬ (ending ≡ rests)
+pub awaited : (end : End) (stream : List ℕ) (items : List Item) (found : Option IntakeFault) (ending : Ending) → IsAwaited end → IsEnd end stream items found ending → ¬ (ending ≡ rests)
 awaited nothing stream items found ending awaits is = absurd awaits
 awaited more stream items found ending awaits is = λ e. absurd (cc (sym is.0 ∙ e))
 awaited (fault place) stream items None rests awaits is = absurd is

@@ -1,5 +1,5 @@
 -- What a client keeps, and what its calls give.
-use Rattle.std.specs.Prelude.{◌≡◌, ℕ, ◌+◌, ◌*◌, ◌<◌, ◌≤◌, nat_lt, Bool, true, false, List, [], ◌∷◌, ◌++◌, length, option_to_list, Option, None, Some, IfSome, Result, Ok, Err}
+use Rattle.std.specs.Prelude.{◌≡◌, ℕ, ◌+◌, ◌<◌, ◌≤◌, nat_lt, Bool, true, false, List, [], ◌∷◌, ◌++◌, length, option_to_list, Option, None, Some, IfSome, Result, Ok, Err}
 use Rattle.rpc_calls.specs.declared.feed_fault.FeedFault.{FeedFault}
 use Rattle.rpc_calls.specs.declared.feed_fault.FeedFault.TheVariants as feeds
 use Rattle.rpc_calls.specs.declared.item.Item.{Item}

@@ -1,5 +1,5 @@
 -- How much a client has yet to give, and how much it may be fed: both come to an end.
-use Rattle.std.specs.Prelude.{◌≡◌, ℕ, ◌+◌, ◌*◌, ◌-◌, ◌<◌, Bool, true, false, List, length, option_to_list, Option, None, Some}
+use Rattle.std.specs.Prelude.{◌≡◌, ℕ, ◌+◌, ◌*◌, ◌-◌, ◌<◌, Bool, true, false, length, Option, None, Some}
 use Rattle.rpc_calls.specs.Intakes.{stream_length}
 use Rattle.rpc_client.specs.declared.ask.Ask.{Ask}
 use Rattle.rpc_client.specs.declared.ask.Ask.TheVariants.{Line, Wait, Write}

@@ -7,8 +7,10 @@
 mod ask;
 mod client;
 mod client_fault;
+mod laws;
 
 pub use ask::Ask;
 pub use client::Client;
 pub use client_commands::{Command, CommandFault, parse_command};
 pub use client_fault::ClientFault;
+pub use laws::{bad_replies_stand, exchanges_are_one};
