@@ -1,0 +1,2 @@
+mod ClusterLaws
+mod RoundLaws

@@ -1,0 +1,4 @@
+pub mod Draws
+pub mod Clusters
+pub mod Lines
+pub mod Rounds

@@ -1,0 +1,9 @@
+pub mod Bounding
+pub mod Formatting
+pub mod Generating
+pub mod Lines
+pub mod Marking
+pub mod Pumping
+pub mod Reaching
+pub mod Running
+pub mod Telling

@@ -1,0 +1,9 @@
+pub mod Marks
+pub mod Playing
+pub mod Yields
+pub mod Lines
+pub mod Scripts
+pub mod Runs
+pub mod Replaying
+pub mod Stops
+pub mod Bounds
