@@ -1,12 +1,10 @@
 -- How a session ends: what the node told and logged is what Alone says.
-use Rattle.std.proofs.Common.{◌≡◌, ◌⊎◌, inl, inr, ℕ, ◌+◌, ◌≤◌, ◌<◌, Bool, true, false, List, [], ◌∷◌, ◌++◌, length, Option, Some, None, is_some, Result, Ok, Err, refl, sym, ap, ◌∙◌, subst, append_assoc, arith}
+use Rattle.std.proofs.Common.{◌≡◌, inl, inr, ℕ, List, [], ◌++◌, Option, refl, sym, ap, ◌∙◌, subst, arith}
 use Rattle.std.proofs.lemmas.List.{append-nil}
 use Rattle.std.specs.Map.{keys_of}
 use Rattle.causes.specs.Counts.{Rose}
 use Rattle.disk_core.specs.Views.{DiskView}
 use Rattle.quorum_log.specs.Logs.{LogValue}
-use Rattle.gum_messages.specs.Messages.{Sent}
-use Rattle.update_records.specs.Entry.{Entry}
 use Rattle.rpc_calls.specs.declared.intake_fault.IntakeFault.{IntakeFault}
 use Rattle.rpc_calls.specs.declared.item.Item.{Item}
 use Rattle.rpc_calls.specs.declared.side.Side.TheVariants.{Server}
@@ -17,12 +15,10 @@ use Rattle.cluster_rules.specs.declared.effect.HaltCause.TheVariants as halt
 use Rattle.cluster_member.specs.Logging.{answer_to}
 use Rattle.single_items.specs.Alone.{AloneRun, alone}
 use Rattle.single_items.specs.Events.{told_to}
-use Rattle.single_items.specs.Promises.{BeginsWith, IsAlone, IsReason, TellsFirst}
-use Rattle.single_items.specs.Standing.{StandsAt}
+use Rattle.single_items.specs.Promises.{BeginsWith, IsAlone, IsReason}
 use Rattle.single_items.proofs.AllTaken.{tells_alone}
-use Rattle.single_items.proofs.Fronts.{begins_more, tells_first}
+use Rattle.single_items.proofs.Fronts.{tells_first}
 use Rattle.single_items.proofs.Telling.{told_both}
-use Rattle.single_node.specs.Delivering.{StoppedAt}
 use Rattle.single_node.specs.Singles.{SingleState}
 use Rattle.single_node.specs.Standing.{alone_node}
 use Rattle.single_server.specs.declared.ended.Ended.{Ended}
@@ -64,6 +60,20 @@ module _ (c : ℕ) (b : Beginning) (stream : List ℕ) (told : List Effect) wher
   cut_is_front NoMemory w (inr (nothing, silent, still)) = λ given fault items.
       ((alone c b.first given).output, sym (ap (λ (l : List ℕ). l ++ (alone c b.first given).output) (ap (told_to c) silent)))
 
+-- A node that owns its log halts for a failed call of the disk alone.
+module _ (c : ℕ) (b : Beginning) (w : DiskView) (owns : Owns 1 b.member b.disk) (view : b.first.single.view ≡ 1) where
+  pub halts_owning : (stream : List ℕ) (told : List Effect) (cause : HaltCause) → HaltsFor cause c b stream told w → (cause ≡ halt.Disk) × Rose b.disk.faults w.faults
+  halts_owning stream told cause (at, is) = let r = by_why at.halted.cause at.halted.why in (sym is ∙ r.0, r.1)
+    where
+      by_why : (k : HaltCause) → IsReason k b.first.single.view at.disk.current.held (answer_to at.halted.added) → (k ≡ halt.Disk) × Rose b.disk.faults w.faults
+      by_why halt.Disk why =
+          let kept = logs_keep 1 at.added b.member at.before.member b.disk at.disk at.logs owns in
+          (refl, rose_from b.disk.faults at.disk.faults w.faults kept.1 (logs_fail 1 _ at.before.member at.disk w at.halted.added at.halted.logs kept.0 why at.halted.had_memory))
+      by_why (halt.Fenced h) (later, same) =
+          let kept = logs_keep 1 at.added b.member at.before.member b.disk at.disk at.logs owns in
+          let held = kept.0.held in absurd (omega (arith, later, view, held))
+      by_why (halt.Image place) why = absurd why
+
 -- ---- the whole
 
 module _ (stamp : ℕ) (left now written holds : Option (List ℕ)) (v w : DiskView) (b : Beginning) (begins : BeginsOn stamp v b.first b.member b.disk) where
@@ -84,24 +94,13 @@ module _ (stamp : ℕ) (left now written holds : Option (List ℕ)) (v w : DiskV
 
   -- ---- causes
 
-  owns_first : Owns 1 b.member b.disk
+  pub owns_first : Owns 1 b.member b.disk
   owns_first = record { log = begins.log; has = begins.has; claim = ap (λ (l : LogValue). l.claim) begins.opened.value; held = begins.opened.held }
 
   -- The node halts for a failed call of the disk alone.
   halts_disk : (stream : List ℕ) (told : List Effect) (cause : HaltCause) → HaltsFor cause 1 b stream told w → (cause ≡ halt.Disk) × Rose v.faults w.faults
-  halts_disk stream told cause (at, is) = let r = by_why at.halted.cause at.halted.why in (sym is ∙ r.0, r.1)
-    where
-      by_why : (k : HaltCause) → IsReason k b.first.single.view at.disk.current.held (answer_to at.halted.added) → (k ≡ halt.Disk) × Rose v.faults w.faults
-      by_why halt.Disk why =
-          let kept = logs_keep 1 at.added b.member at.before.member b.disk at.disk at.logs owns_first in
-          let early = begins.same_disk.faults in
-          let late = kept.1 in
-          (refl, rose_from v.faults at.disk.faults w.faults (omega (arith, early, late)) (logs_fail 1 _ at.before.member at.disk w at.halted.added at.halted.logs kept.0 why at.halted.had_memory))
-      by_why (halt.Fenced h) (later, same) =
-          let kept = logs_keep 1 at.added b.member at.before.member b.disk at.disk at.logs owns_first in
-          let view : b.first.single.view ≡ 1 = ap (λ (r : AloneRun). r.single.view) begins.is in
-          let held = kept.0.held in absurd (omega (arith, later, view, held))
-      by_why (halt.Image place) why = absurd why
+  halts_disk stream told cause off =
+      let f = halts_owning 1 b w owns_first (ap (λ (r : AloneRun). r.single.view) begins.is) stream told cause off in (f.0, rose_from v.faults b.disk.faults w.faults begins.same_disk.faults f.1)
 
   pub serves_part : (ended : Ended) → IsCutOff ended 1 b left now written holds w → Serves ended stamp left now written holds v w
   serves_part Done off = absurd off.cut

@@ -1,23 +1,18 @@
 -- What the node was told and tells leads it on as Alone says.
-use Rattle.std.proofs.Common.{◌≡◌, ◌≢◌, ◌⊎◌, inl, inr, ℕ, ◌<◌, Bool, true, false, List, [], ◌∷◌, ◌++◌, map, Option, Some, None, Result, Ok, Err, refl, sym, ap, ◌∙◌, subst, append_assoc}
+use Rattle.std.proofs.Common.{◌≡◌, inl, inr, ℕ, ◌<◌, Bool, true, false, List, [], ◌∷◌, ◌++◌, map, Option, Some, None, Ok, refl, sym, ap, ◌∙◌, subst}
 use Rattle.std.specs.Map.{keys_of}
 use Rattle.std.specs.Prelude.{is_none}
 use Rattle.std.specs.declared.alloc.AllocError.{AllocError}
-use Rattle.std.proofs.lemmas.List.{append-nil}
-use Rattle.causes.specs.Writing.{Wrote, WroteSome}
 use Rattle.disk_core.specs.Views.{DiskView}
 use Rattle.gum_messages.specs.Messages.{Sent}
-use Rattle.update_records.specs.Entry.{Entry}
 use Rattle.cluster_rules.specs.declared.effect.CloseCause.TheVariants.{NodeStopped}
 use Rattle.cluster_rules.specs.declared.effect.Effect.{Effect}
-use Rattle.cluster_rules.specs.declared.effect.Effect.TheVariants.{Closed, Halted}
+use Rattle.cluster_rules.specs.declared.effect.Effect.TheVariants.{Closed}
 use Rattle.cluster_rules.specs.declared.effect.HaltCause.{HaltCause}
 use Rattle.cluster_rules.specs.Worlds.{sent}
-use Rattle.client_connections.specs.Clients.{Client, closings}
 use Rattle.cluster_node.specs.Events.{NodeReceives}
 use Rattle.cluster_node.specs.States.{RunningNode}
-use Rattle.single_items.specs.Events.{told_by, told_to}
-use Rattle.single_items.proofs.Telling.{told_both}
+use Rattle.single_items.specs.Events.{told_to}
 use Rattle.single_node.specs.Delivering.{StoppedAt, UnderWay}
 use Rattle.single_node.specs.Laws.{HaltedAt}
 use Rattle.single_node.specs.Singles.{BreaksOff, HearsOldest, SingleState, halt_cause}
@@ -26,7 +21,7 @@ use Rattle.single_node.proofs.Delivery.{delivery_goes_on}
 use Rattle.single_node.proofs.Halting.{halt_leads}
 use Rattle.single_server.specs.declared.delivering.Turn.{Turn}
 use Rattle.single_server.specs.declared.delivering.Turn.TheVariants.{GoesOn, Halts, Rests, RunsOut, WriteFails}
-use Rattle.single_server.specs.Hearing.{Beginning, HaltsFor, HasRunOut, Heard, IsTold, Lessens, Tells, Turns, work_left}
+use Rattle.single_server.specs.Hearing.{Beginning, HaltsFor, Heard, Lessens, Tells, Turns, work_left}
 
 -- ---- what a node that stops tells
 
@@ -38,10 +33,10 @@ tells_nothing c (n ∷ numbers) = tells_nothing c numbers
 
 module _ (c : ℕ) (b : Beginning) (stream : List ℕ) (told : List Effect) (s t : SingleState) (v w : DiskView) (es : List Effect) (h : Heard c b stream told s v) (hears : HearsOldest s v es t w) where
   -- the node before, with its oldest message in front
-  before : UnderWay c b.first stream [] [] b.member b.disk (hears.message ∷ hears.others) h.now v told
+  pub before : UnderWay c b.first stream [] [] b.member b.disk (hears.message ∷ hears.others) h.now v told
   before = subst (λ (l : List Sent). UnderWay c b.first stream [] [] b.member b.disk l h.now v told) hears.oldest h.under_way
 
-  receives : (r : Option RunningNode) → t.node.running ≡ r → NodeReceives {E = AllocError} v (Some h.now) hears.message (Ok es) r w
+  pub receives : (r : Option RunningNode) → t.node.running ≡ r → NodeReceives {E = AllocError} v (Some h.now) hears.message (Ok es) r w
   receives r is = subst (λ (q : Option RunningNode). NodeReceives {E = AllocError} v (Some h.now) hears.message (Ok es) q w) is
       (subst (λ (q : Option RunningNode). NodeReceives {E = AllocError} v q hears.message (Ok es) t.node.running w) h.runs hears.receives)
 
@@ -76,21 +71,21 @@ module _ (c : ℕ) (b : Beginning) (stream : List ℕ) (told : List Effect) (s t
 
   -- ---- what is written of it
 
-  abbrev Stopped : Bool
+  abbrev pub Stopped : Bool
   Stopped = is_none t.node.running
 
-  ends_at : (r : Option RunningNode) → t.node.running ≡ r → (is_none r ≡ true) → t.node.running ≡ None
+  pub ends_at : (r : Option RunningNode) → t.node.running ≡ r → (is_none r ≡ true) → t.node.running ≡ None
   ends_at None is stops = is
   ends_at (Some y) is stops = let e : false ≡ true = stops in absurd (cc)
 
-  runs_on : (r : Option RunningNode) → t.node.running ≡ r → (is_none r ≡ false) → (y : RunningNode) × (t.node.running ≡ Some y)
+  pub runs_on : (r : Option RunningNode) → t.node.running ≡ r → (is_none r ≡ false) → (y : RunningNode) × (t.node.running ≡ Some y)
   runs_on (Some y) is goes = (y, is)
   runs_on None is goes = let e : true ≡ false = goes in absurd (cc)
 
   pub stop_has_cause : Stopped ≡ true → (cause : HaltCause) × (halt_cause es ≡ Some cause)
   stop_has_cause stops = let f = halts (ends_at t.node.running refl stops) in (f.0, f.1)
 
-  heard_on : Stopped ≡ false → Heard c b stream (told ++ es) t w × (work_left t < work_left s)
+  pub heard_on : Stopped ≡ false → Heard c b stream (told ++ es) t w × (work_left t < work_left s)
   heard_on goes = let r = runs_on t.node.running refl goes in goes_on r.0 r.1
 
   pub turns_on : (turn : Turn) (old now : Option (List ℕ)) → Tells turn c es Stopped old now → Turns turn c b stream told t w old now

@@ -8,3 +8,11 @@ mod EndLaws
 mod ConverseLaws
 mod OpenLaws
 mod Tokens
+mod DoorLaws
+mod QueueLaws
+mod ClosingLaws
+mod TalkLaws
+mod ConversingLaws
+mod AttendLaws
+mod ServeLaws
+mod RunLaws

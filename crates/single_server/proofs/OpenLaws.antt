@@ -21,7 +21,7 @@ use Rattle.cluster_rules.specs.declared.effect.HaltCause.TheVariants as halt
 use Rattle.single_items.specs.Alone.{begins_alone}
 use Rattle.single_node.specs.declared.fault.StartFault.{StartFault}
 use Rattle.single_node.specs.declared.fault.StartFault.TheVariants as start
-use Rattle.single_node.specs.Opening.{cause_for, opened_with}
+use Rattle.single_node.specs.Opening.{OnlyClaims, cause_for, opened_with}
 use Rattle.single_node.specs.Singles.{Opens, SingleState}
 use Rattle.single_server.specs.declared.ended.Ended.{Ended}
 use Rattle.single_server.specs.declared.ended.Ended.TheVariants.{BadLog, DiskFault, Done, Fenced, NoMemory, ReadFault, WriteFault}
@@ -66,7 +66,7 @@ module _ (count : ℕ) (v ready : DiskView) where
   held_now (inr (blank, is)) = blank.made.held
 
 pub counts_made : (v u w : DiskView) (r : Result ℕ Ended) → IsBlank 1 v u → OpenCalls 1 v (Err open_faults.Blank) u → (IsTrue v.tells → Passes (IsInOpen v.current 1) v u) → SameDisk v u → MakesLog u r w → Counts v r w
-counts_made v u w (Ok count) blank looked moments same (made, is) = inr (record { between = u; blank = blank; looked = looked; any_moment = moments; made = made }, is)
+counts_made v u w (Ok count) blank looked moments same (made, is) = inr (record { between = u; same_disk = same; blank = blank; looked = looked; any_moment = moments; made = made }, is)
 counts_made v u w (Err DiskFault) blank looked moments same (held, rose) = (blank.held_before, rose_from v.faults u.faults w.faults same.faults rose)
 counts_made v u w (Err (Fenced h)) blank looked moments same (later, is) = (let e = blank.held in absurd (omega (arith, later, e)))
 counts_made v u w (Err Done) blank looked moments same made = absurd made
@@ -86,26 +86,32 @@ begun stamp count v ready w s holds (y, es, is, o) before after = record {
   begins = record {
     count = count;
     ready = ready;
+    same_before = before;
     holds = holds;
     log = o.log;
     recovered = o.recovered;
     opened = o.opened;
+    claims = o.claims;
     same_disk = same_then v ready w before after;
     has = o.has;
     is = refl;
+    node = y;
+    kept = refl;
+    unconnected = o.unconnected;
   };
   unconnected = o.unconnected;
 }
 
 module _ (stamp count inc : ℕ) (v ready w : DiskView) (holds : Holds count v ready) (same : SameDisk v ready) where
-  by_fault : (fault : RecordFault) (cause : HaltCause) → fault ≢ records.Memory → OpensTo 1 ready (Err fault) w → ◌≡◌ {A = List Effect} (Halted cause ∷ []) (Halted (cause_for fault) ∷ []) → NotBegun (ended_by cause) v w
-  by_fault records.Failed cause had (held, rose) e =
+  by_fault : (fault : RecordFault) (cause : HaltCause) → fault ≢ records.Memory → OpensTo 1 ready (Err fault) w → OnlyClaims 1 ready w
+      → ◌≡◌ {A = List Effect} (Halted cause ∷ []) (Halted (cause_for fault) ∷ []) → NotBegun (ended_by cause) v w
+  by_fault records.Failed cause had (held, rose) claims e =
       let is : cause ≡ halt.Disk = cc in subst (λ (k : HaltCause). NotBegun (ended_by k) v w) (sym is) (held_before count v ready holds, rose_from v.faults ready.faults w.faults same.faults rose)
-  by_fault (records.Fenced h) cause had (later, is) e = (let n = held_now count v ready holds in absurd (omega (arith, later, n)))
-  by_fault (records.Image place) cause had (held, bad) e =
-      let is : cause ≡ halt.Image place = cc in subst (λ (k : HaltCause). NotBegun (ended_by k) v w) (sym is) (held_before count v ready holds, inr (count, ready, holds, bad))
-  by_fault records.Memory cause had opens e = absurd (had refl)
+  by_fault (records.Fenced h) cause had (later, is) claims e = (let n = held_now count v ready holds in absurd (omega (arith, later, n)))
+  by_fault (records.Image place) cause had (held, bad) claims e =
+      let is : cause ≡ halt.Image place = cc in subst (λ (k : HaltCause). NotBegun (ended_by k) v w) (sym is) (held_before count v ready holds, inr (count, ready, holds, same, bad, claims))
+  by_fault records.Memory cause had opens claims e = absurd (had refl)
 
   pub not_begun : (fault : StartFault) → Opens inc stamp ready (Err fault) w → NotBegun (ended_at fault) v w
-  not_begun start.Memory h = tt
-  not_begun (start.Halted cause) h = by_fault h.fault cause h.had_memory h.opens h.effects
+  not_begun start.Memory h = held_before count v ready holds
+  not_begun (start.Halted cause) h = by_fault h.fault cause h.had_memory h.opens h.claims h.effects

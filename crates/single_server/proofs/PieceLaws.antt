@@ -1,9 +1,8 @@
 -- A piece of the connection's stream leads the node on, or the node closes the connection.
-use Rattle.std.proofs.Common.{◌≡◌, ◌⊎◌, inl, inr, ℕ, Bool, true, false, List, [], ◌∷◌, ◌++◌, Option, Some, None, is_some, refl, sym, ap, ◌∙◌, subst, append_assoc}
+use Rattle.std.proofs.Common.{◌≡◌, ◌⊎◌, inl, inr, ℕ, List, [], ◌++◌, Option, Some, None, refl, sym, ap, ◌∙◌, subst}
 use Rattle.std.proofs.lemmas.List.{append-nil}
 use Rattle.disk_core.specs.Views.{DiskView}
 use Rattle.gum_messages.specs.Messages.{Sent}
-use Rattle.update_records.specs.Entry.{Entry}
 use Rattle.update_records.specs.declared.update.Update.{Update}
 use Rattle.rpc_calls.specs.Intakes.{Kept}
 use Rattle.cluster_rules.specs.declared.effect.CloseCause.{CloseCause}
@@ -11,7 +10,7 @@ use Rattle.cluster_rules.specs.declared.effect.Effect.{Effect}
 use Rattle.cluster_rules.specs.Worlds.{sent}
 use Rattle.client_connections.specs.declared.origin.Origin.{Origin}
 use Rattle.client_connections.specs.Clients.{Client, Clients, client_at, left_by}
-use Rattle.client_connections.specs.Taking.{Hears, HearsBy, Serving, refusal}
+use Rattle.client_connections.specs.Taking.{Hears, HearsBy, Serving}
 use Rattle.cluster_node.specs.Acting.{HearsPiece, serving_of}
 use Rattle.cluster_node.specs.Events.{HearsBytes}
 use Rattle.cluster_node.specs.States.{RunningNode, client_in}
@@ -19,9 +18,8 @@ use Rattle.single_items.specs.Events.{told_to}
 use Rattle.single_items.specs.Promises.{IsRefused}
 use Rattle.single_items.specs.Standing.{NodeAlone, Phase, StandsAt, clients_of, waiting_on}
 use Rattle.single_items.specs.Alone.{AloneRun}
-use Rattle.single_items.proofs.Keeping.{found_one, left_one}
-use Rattle.single_items.proofs.Telling.{sent_both, told_both}
-use Rattle.single_node.specs.Delivering.{UnderWay}
+use Rattle.single_items.proofs.Keeping.{left_one}
+use Rattle.single_items.proofs.Telling.{told_both}
 use Rattle.single_node.specs.Singles.{Sends, SingleState}
 use Rattle.single_node.specs.Standing.{alone_node}
 use Rattle.single_node.proofs.Applied.{still_as_stands}
@@ -50,17 +48,17 @@ is_gone c piece v s t waiting r (Some kept) told queued es is hears (inr (k, cau
 
 module _ (c : ℕ) (b : Beginning) (stream piece : List ℕ) (told : List Effect) (s t : SingleState) (v : DiskView) (es : List Effect) (h : Heard c b stream told s v) (quiet : s.left ≡ [])
     (heard : HearsBytes c piece s.node.running t.node.running es) (sends : Sends s es t) where
-  stands : StandsAt c b.first stream (alone_node h.now []) (told_to c told) h.under_way.added
+  pub stands : StandsAt c b.first stream (alone_node h.now []) (told_to c told) h.under_way.added
   stands = subst (λ (l : List Sent). StandsAt c b.first stream (alone_node h.now l) (told_to c told) h.under_way.added) quiet h.under_way.stands
 
-  left_is : t.left ≡ sent es
+  pub left_is : t.left ≡ sent es
   left_is = sends ∙ ap (λ (l : List Sent). l ++ sent es) quiet
 
-  heard_at : (y : RunningNode) → t.node.running ≡ Some y → HearsPiece c piece h.now.member h.now.clients y.member y.clients es
+  pub heard_at : (y : RunningNode) → t.node.running ≡ Some y → HearsPiece c piece h.now.member h.now.clients y.member y.clients es
   heard_at y is = subst (λ (r : Option RunningNode). HearsBytes c piece (Some h.now) r es) is (subst (λ (r : Option RunningNode). HearsBytes c piece r t.node.running es) h.runs heard)
 
   -- The node stands there behind this stream.
-  heard_of : (y : RunningNode) (more : List ℕ) → t.node.running ≡ Some y → StandsAt c b.first more (alone_node y (sent es)) (told_to c (told ++ es)) h.under_way.added → Heard c b more (told ++ es) t v
+  pub heard_of : (y : RunningNode) (more : List ℕ) → t.node.running ≡ Some y → StandsAt c b.first more (alone_node y (sent es)) (told_to c (told ++ es)) h.under_way.added → Heard c b more (told ++ es) t v
   heard_of y more is there = record {
     now = y;
     runs = is;

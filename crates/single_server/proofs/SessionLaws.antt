@@ -1,19 +1,11 @@
 -- How a session begins and ends.
-use Rattle.std.proofs.Common.{◌≡◌, ◌⊎◌, inl, inr, ℕ, ◌+◌, ◌≤◌, ◌<◌, Bool, true, false, List, [], ◌∷◌, ◌++◌, length, Option, Some, None, is_some, Result, Ok, Err, nat_eq, refl, sym, ap, ◌∙◌, subst, append_assoc, arith, length-append}
+use Rattle.std.proofs.Common.{◌≡◌, inl, inr, ℕ, ◌+◌, ◌≤◌, ◌<◌, true, false, List, [], ◌++◌, length, Option, Some, None, is_some, Result, refl, sym, ap, ◌∙◌, subst, arith}
 use Rattle.std.specs.Prelude.{⊤}
 use Rattle.std.specs.List.{list_any}
-use Rattle.std.specs.Io.KnownBytes.{Consumes}
-use Rattle.std.proofs.KnownBytes.{Consumes-trans}
-use Rattle.std.proofs.lemmas.List.{append-nil}
-use Rattle.causes.specs.Writing.{Wrote}
 use Rattle.disk_core.specs.Views.{DiskView}
 use Rattle.context_handles.specs.Table.{Table}
 use Rattle.gum_messages.specs.Messages.{Sent}
 use Rattle.registry_machine.specs.Machine.{registry_machine}
-use Rattle.rpc_calls.specs.declared.intake_fault.IntakeFault.{IntakeFault}
-use Rattle.rpc_calls.specs.declared.item.Item.{Item}
-use Rattle.rpc_calls.specs.declared.side.Side.TheVariants.{Server}
-use Rattle.rpc_calls.specs.Streams.{Items}
 use Rattle.cluster_rules.specs.declared.effect.Effect.{Effect}
 use Rattle.cluster_rules.specs.Worlds.{sent}
 use Rattle.client_connections.specs.Clients.{Clients, client_at, fresh_client, has_waiting, waits_at, with_new}
@@ -21,7 +13,6 @@ use Rattle.cluster_node.specs.Events.{Connects}
 use Rattle.cluster_node.specs.States.{RunningNode, client_in, runs}
 use Rattle.single_rules.specs.Single.{Single}
 use Rattle.single_items.specs.Alone.{AloneRun, begins_alone}
-use Rattle.single_items.specs.Events.{told_to}
 use Rattle.single_items.specs.Promises.{IsUnconnected, IsUnconnectedFor}
 use Rattle.single_items.specs.Standing.{Asked, Calm, Granting, NodeAlone, StandsAt, Stuck, Way, left_on, queued_on, waiting_on}
 use Rattle.single_items.proofs.Keeping.{found_one}
@@ -29,10 +20,11 @@ use Rattle.single_node.specs.Singles.{Sends, SingleState}
 use Rattle.single_node.specs.Standing.{IsStill, alone_node}
 use Rattle.single_node.proofs.Applied.{still_self}
 use Rattle.single_node.proofs.Connecting.{connect_leads, connects_first}
-use Rattle.single_server.specs.Hearing.{Beginning, Heard, IsHeard}
+use Rattle.single_server.specs.Hearing.{Beginning}
 use Rattle.single_server.specs.declared.ended.Ended.{Ended}
 use Rattle.single_server.specs.declared.ended.Ended.TheVariants.{BadLog, DiskFault, Done, Fenced, NoMemory, ReadFault, WriteFault}
 use Rattle.single_server.specs.Begins.{IsBegun, NotBegun}
+use Rattle.single_server.specs.Talking.{waits_in}
 use Rattle.single_server.specs.Session.{Converses, IsCutOff, IsFresh, IsHeardOut, Serves, ServesStream, Starts, beginning_at}
 use Rattle.single_server.proofs.ConverseLaws.{no_bytes}
 use Rattle.single_server.proofs.Written.{wrote_nothing}
@@ -47,7 +39,7 @@ waits_for (Asked (Some l) origin u) a c quiet few = absurd (cc)
 waits_for (Granting origin u) a c quiet few = absurd (cc)
 waits_for (Stuck head others origins) a c quiet few = let no : 1 + length others ≤ 0 = few in absurd (omega (arith, no))
 
-none_waits : (c : ℕ) (z : NodeAlone) (a : Single registry_machine) (table : Table) (taken : ℕ) → IsUnconnected z a table taken → taken ≡ 0 → has_waiting c z.clients.common ≡ false
+pub none_waits : (c : ℕ) (z : NodeAlone) (a : Single registry_machine) (table : Table) (taken : ℕ) → IsUnconnected z a table taken → taken ≡ 0 → has_waiting c z.clients.common ≡ false
 none_waits c z a table taken h none =
     ap (λ (n : NodeAlone). list_any (waits_at c) n.clients.common.waiting) h.is
     ∙ waits_for h.way a c h.left (let r = h.requests in omega (arith, r, none))
@@ -60,7 +52,7 @@ is_unused c s x a table taken runs h =
     ap (λ (r : Option RunningNode). elim r [ None ↦ None | Some y ↦ client_at c y.clients ]) runs ∙ none_open c (alone_node x []) a table taken h
 
 module _ (c : ℕ) (s t : SingleState) (v : DiskView) (es : List Effect) (x : RunningNode) (first : AloneRun) (running : s.node.running ≡ Some x) (quiet : s.left ≡ [])
-    (free : IsUnconnectedFor first (alone_node x [])) (none : first.taken ≡ 0) (begun : first ≡ begins_alone first.single first.client.handles first.taken)
+    (free : IsUnconnectedFor first (alone_node x [])) (unwaited : has_waiting c x.clients.common ≡ false) (begun : first ≡ begins_alone first.single first.client.handles first.taken)
     (connects : Connects c s.node.running t.node.running es) (sends : Sends s es t) where
   connects_to : (r : Option RunningNode) → t.node.running ≡ r → Connects c (Some x) r es
   connects_to r is = subst (λ (q : Option RunningNode). Connects c (Some x) q es) is (subst (λ (q : Option RunningNode). Connects c q t.node.running es) running connects)
@@ -81,7 +73,7 @@ module _ (c : ℕ) (s t : SingleState) (v : DiskView) (es : List Effect) (x : Ru
   by_running : (r : Option RunningNode) → t.node.running ≡ r → Connects c (Some x) r es → Begun
   by_running None is to = absurd to
   by_running (Some y) is to =
-      let f = connect_leads c x y es first.single first.client.handles first.taken free (none_waits c (alone_node x []) first.single first.client.handles first.taken free none) to in
+      let f = connect_leads c x y es first.single first.client.handles first.taken free unwaited to in
       let left_is : t.left ≡ [] = sends ∙ ap (λ (l : List Sent). l ++ sent es) quiet ∙ ap sent f.1 in
       let stands : StandsAt c first [] (alone_node y []) [] [] = subst (λ (r : AloneRun). StandsAt c r [] (alone_node y []) [] []) (sym begun) f.0 in (
         record {
@@ -95,6 +87,22 @@ module _ (c : ℕ) (s t : SingleState) (v : DiskView) (es : List Effect) (x : Ru
 
   pub connection_begins : Starts c (beginning_at first x v) t v × (t.left ≡ []) × (is_some (client_in c t.node) ≡ true)
   connection_begins = by_running t.node.running refl (connects_to t.node.running refl)
+
+  -- No update is queued by that.
+  queues_by : (d : ℕ) (r : Option RunningNode) → Connects c (Some x) r es → elim r [ None ↦ false | Some y ↦ has_waiting d y.clients.common ] ≡ has_waiting d x.clients.common
+  queues_by d None to = absurd to
+  queues_by d (Some y) to =
+      ap (λ (n : RunningNode). has_waiting d n.clients.common) (to.0 ∙ ap (λ (p : Clients × Option Effect). runs x.member p.0) (connects_first c x.clients no_conns))
+
+  pub connection_queues_none : (d : ℕ) → waits_in d t.node ≡ has_waiting d x.clients.common
+  connection_queues_none d = queues_by d t.node.running (connects_to t.node.running refl)
+
+-- The first one, of a node that has taken no item.
+pub first_begins : (c : ℕ) (s t : SingleState) (v : DiskView) (es : List Effect) (x : RunningNode) (first : AloneRun) → s.node.running ≡ Some x → s.left ≡ [] → IsUnconnectedFor first (alone_node x []) → first.taken ≡ 0
+    → first ≡ begins_alone first.single first.client.handles first.taken → Connects c s.node.running t.node.running es → Sends s es t
+    → Starts c (beginning_at first x v) t v × (t.left ≡ []) × (is_some (client_in c t.node) ≡ true)
+first_begins c s t v es x first running quiet free none begun connects sends =
+    connection_begins c s t v es x first running quiet free (none_waits c (alone_node x []) first.single first.client.handles first.taken free none) begun connects sends
 
 -- ---- the run ends
 
@@ -133,7 +141,7 @@ unserved (Fenced held) stamp left written v w h = record { fault = h; unread = r
 
 -- ---- the node that was opened
 
-begun_as : (first : AloneRun) (a : Single registry_machine) (table : Table) → first ≡ begins_alone a table 0 → first ≡ begins_alone first.single first.client.handles first.taken
+pub begun_as : (first : AloneRun) (a : Single registry_machine) (table : Table) → first ≡ begins_alone a table 0 → first ≡ begins_alone first.single first.client.handles first.taken
 begun_as first a table e = e ∙ ap (λ (r : AloneRun). begins_alone r.single r.client.handles r.taken) (sym e)
 
 pub is_fresh : (stamp : ℕ) (v : DiskView) (s : SingleState) (w : DiskView) → IsBegun stamp v s w → IsFresh s

@@ -1,5 +1,5 @@
 -- What was told and written is told and written in turn.
-use Rattle.std.proofs.Common.{◌≡◌, ◌≢◌, ◌⊎◌, ◌≤◌, inl, inr, ℕ, ◌+◌, Bool, true, false, List, [], ◌∷◌, ◌++◌, length, min, take, Option, Some, None, Result, Ok, Err, refl, sym, ap, ◌∙◌, subst, append_assoc, arith}
+use Rattle.std.proofs.Common.{◌≡◌, ◌≢◌, ℕ, ◌+◌, List, [], ◌++◌, length, min, take, Option, Some, None, refl, sym, ◌∙◌, subst, append_assoc, arith}
 use Rattle.std.proofs.lemmas.List.{append-nil, take-append-le, take_min}
 use Rattle.std.proofs.Math.Seq.{take-append-add}
 use Rattle.causes.specs.Writing.{Wrote, WroteSome}
@@ -67,7 +67,7 @@ module _ (c : ℕ) (b : Beginning) (stream : List ℕ) (told : List Effect) wher
 
   -- ---- where the run is cut off
 
-  halts_cut : (cause : HaltCause) (es : List Effect) (w : DiskView) → HaltsFor cause c b stream (told ++ es) w → CutOff (ended_by cause) c b stream (told ++ es) w
+  pub halts_cut : (cause : HaltCause) (es : List Effect) (w : DiskView) → HaltsFor cause c b stream (told ++ es) w → CutOff (ended_by cause) c b stream (told ++ es) w
   halts_cut halt.Disk es w h = h
   halts_cut (halt.Fenced held) es w h = h
   halts_cut (halt.Image place) es w h = h

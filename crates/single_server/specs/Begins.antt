@@ -11,6 +11,7 @@ use Rattle.quorum_log.specs.declared.fault.OpenFault.TheVariants as open_faults
 use Rattle.quorum_log.specs.declared.found.Found.{Found}
 use Rattle.quorum_log.specs.Formats.{FormatCalls, IsFormatted, IsInFormat}
 use Rattle.quorum_log.specs.Logs.{IsWithinLimits, LogValue, StandsFor}
+use Rattle.quorum_log.specs.Checks.{IsBadImage}
 use Rattle.quorum_log.specs.Opening.{IsBlank, IsInOpen, OpenCalls, WasRead}
 use Rattle.record_log.specs.declared.recovered.Recovered.{Recovered}
 use Rattle.record_log.specs.Opening.{HasOpened, IsBadLog}
@@ -18,7 +19,7 @@ use Rattle.cluster_member.specs.States.{MemberState}
 use Rattle.cluster_node.specs.States.{RunningNode}
 use Rattle.single_items.specs.Alone.{AloneRun, begins_alone}
 use Rattle.single_items.specs.Promises.{IsUnconnectedFor}
-use Rattle.single_node.specs.Opening.{opened_with}
+use Rattle.single_node.specs.Opening.{OnlyClaims, opened_with}
 use Rattle.single_node.specs.Singles.{SingleState, runs_alone}
 use Rattle.single_node.specs.Standing.{alone_node}
 use Rattle.single_server.specs.declared.ended.Ended.{Ended}
@@ -53,6 +54,7 @@ pub record WasMade (v : DiskView) (w : DiskView) : Type 0 where
 -- The disk was blank, as far as it tells, and an empty log was made.
 pub record WasBlank (v w : DiskView) : Type 0 where
   pub between : DiskView
+  pub same_disk : SameDisk v between
   pub blank : IsBlank 1 v between
   pub looked : OpenCalls 1 v (Err open_faults.Blank) between
   pub any_moment : IsTrue v.tells → Passes (IsInOpen v.current 1) v between
@@ -68,21 +70,32 @@ Holds count v w = ((found : Found) × HasFound v found w × (count ≡ found.bas
 pub record BeginsOn (stamp : ℕ) (v : DiskView) (first : AloneRun) (x : MemberState) (w : DiskView) : Type 0 where
   pub count : ℕ
   pub ready : DiskView
+  pub same_before : SameDisk v ready
   pub holds : Holds count v ready
   pub log : LogValue
   pub recovered : Recovered
   pub opened : HasOpened 1 ready log recovered w
+  pub claims : OnlyClaims 1 ready w
   pub same_disk : SameDisk v w
   pub has : x.log ≡ Some log
   pub is : first ≡ begins_alone (opened_with 1 (count + 1) 1 stamp recovered) (handles.fresh 1) 0
+  -- it is a node without a connection that keeps it
+  pub node : RunningNode
+  pub kept : x ≡ node.member
+  pub unconnected : IsUnconnectedFor first (alone_node node [])
+
+-- The image fails a check there, or the log that is ready doesn't decode from there on. A read then gives what it gave before.
+abbrev pub FindsBad : ℕ → DiskView → DiskView → Type 0
+FindsBad place v w =
+    ((IsTrue v.tells → IsBadImage v.current.seen v.size place) × OpenCalls 1 v (Err (open_faults.BadImage place)) w)
+    ⊎ ((count : ℕ) × (ready : DiskView) × Holds count v ready × SameDisk v ready × IsBadLog ready place × OnlyClaims 1 ready w)
 
 -- Why it doesn't open. A log at fault is told by its place: that of the disk as it was, or as it was made ready.
 abbrev pub NotBegun : Ended → DiskView → DiskView → Type 0
 NotBegun DiskFault v w = (v.current.held ≤ 1) × Rose v.faults w.faults
 NotBegun (Fenced held) v w = (1 < v.current.held) × (held ≡ v.current.held)
-NotBegun (BadLog place) v w =
-    (v.current.held ≤ 1) × (IsBadLog v place ⊎ ((count : ℕ) × (ready : DiskView) × Holds count v ready × IsBadLog ready place))
-NotBegun NoMemory v w = Unit {0}
+NotBegun (BadLog place) v w = (v.current.held ≤ 1) × FindsBad place v w
+NotBegun NoMemory v w = v.current.held ≤ 1
 NotBegun ended v w = ⊥
 
 abbrev pub Counts : DiskView → Result ℕ Ended → DiskView → Type 0

@@ -88,7 +88,7 @@ fn tell<K: Sink>(output: &mut K, conn: u32, effects: &[Effect], is_stopped: bool
     ensures write { result ≡ Turn.WriteFails → Rose (K.faults output.old) (K.faults output.new) }
 {
     if is_stopped {
-        return halted(effects);
+        return Turn::Halts(halted(effects));
     }
     match write_replies(output, conn, effects) {
         Ok(()) => Turn::GoesOn,
@@ -97,12 +97,12 @@ fn tell<K: Sink>(output: &mut K, conn: u32, effects: &[Effect], is_stopped: bool
 }
 
 /// Why the node halted.
-fn halted(effects: &[Effect]) -> Turn
+pub(crate) fn halted(effects: &[Effect]) -> HaltCause
     requires { (cause : halt.HaltCause) × (singles.halt_cause effects.now ≡ Some cause) }
-    ensures { (cause : halt.HaltCause) × (singles.halt_cause effects.now ≡ Some cause) × (result ≡ Turn.Halts cause) }
+    ensures { singles.halt_cause effects.now ≡ Some result }
 {
     match halt_cause(effects) {
-        Some(cause) => Turn::Halts(cause),
+        Some(cause) => cause,
         None => unreachable!(),
     }
 }

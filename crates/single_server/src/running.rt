@@ -16,10 +16,10 @@ use single_node::Single;
 use std::alloc::{AllocError, Global};
 
 /// How many bytes are read at once.
-const PIECE: usize = 4096;
+pub(crate) const PIECE: usize = 4096;
 
 /// How many bytes one connection may send.
-const MOST_STREAM: u64 = 1_073_741_824;
+pub(crate) const MOST_STREAM: u64 = 1_073_741_824;
 
 /// The number of the connection.
 const FIRST: u32 = 1;

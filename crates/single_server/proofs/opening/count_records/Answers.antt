@@ -1,4 +1,5 @@
 use Rattle.std.proofs.Common.{inl, inr, refl}
+use Rattle.quorum_log.proofs.Unchanged.{memory_behind_claim}
 use Rattle.single_server.proofs.OpenLaws.{counts_made}
 use Rattle.single_server.proofs.opening.count_records.Goals as goal
 
@@ -20,4 +21,7 @@ returns-in-Err-Blank-clause-counts g c =
 pub returns-in-Err-BadImage-clause-counts : goal.returns-in-Err-BadImage-clause-counts
 returns-in-Err-BadImage-clause-counts g c =
     let f = rw c.in-Err-BadImage.field-0-is at c.in-Err-BadImage.ensures.fault in
-    (f.0, inl (inr (inl f.1)))
+    (f.0, inl (f.1, rw c.in-Err-BadImage.field-0-is at c.in-Err-BadImage.ensures.calls))
+
+pub returns-clause-counts : goal.returns-clause-counts
+returns-clause-counts g c = memory_behind_claim 1 (g.D.Disk.view c.args.disk.now) (g.D.Disk.view c.open.new.disk) (rw c.in-Err-Memory.field-0-is at c.in-Err-Memory.ensures.calls)

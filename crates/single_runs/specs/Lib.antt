@@ -1,0 +1,4 @@
+pub mod BadLogs
+pub mod Door
+pub mod Images
+pub mod Session
