@@ -46,6 +46,10 @@ refused_at v before statuses.Done w now place told sized refused bad = absurd re
 refused_at v before statuses.WriteFault w now place told sized refused bad = absurd refused.why
 refused_at v before statuses.Usage w now place told sized refused bad = absurd refused.why
 refused_at v before statuses.ReadFault w now place told sized refused bad = absurd refused.why
+refused_at v before statuses.TooLong w now at told sized refused bad = absurd refused.why
+refused_at v before (statuses.BadCommand line column) w now at told sized refused bad = absurd refused.why
+refused_at v before (statuses.BadReply place) w now at told sized refused bad = absurd refused.why
+refused_at v before statuses.NoPeer w now at told sized refused bad = absurd refused.why
 
 pub shown_at : {A : Type 0} (v : DiskView) (x : Found) (place : ℕ) → IsTrue v.tells → length v.current.seen ≡ v.size → (IsTrue v.tells → IsGoodLog v.current.seen x)
     → IsBadLog v.current.seen v.size place → A

@@ -1,13 +1,9 @@
-pub mod AnswerLaws
+pub mod AskLaws
 pub mod BadLogs
-pub mod DoorLaws
-pub mod DrainLaws
 pub mod EndLaws
 pub mod ExportLaws
 pub mod FormatLaws
 pub mod OpenLaws
-pub mod RoomLaws
-pub mod ServeLaws
-pub mod ServingLaws
-pub mod SessionLaws
+pub mod RunLaws
 pub mod ShowLaws
+pub mod WritingLaws

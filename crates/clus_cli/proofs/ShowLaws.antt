@@ -8,7 +8,7 @@ use Rattle.clus_cli.specs.declared.status.Status.{Status}
 use Rattle.clus_cli.specs.declared.status.Status.TheVariants as statuses
 use Rattle.clus_cli.specs.Showlog.{IsPrinted, Prints, record_line, record_lines}
 use Rattle.edge_io.proofs.Pieces.{Wrote-append}
-use Rattle.clus_cli.proofs.AnswerLaws.{wrote_nothing, some_of_more, some_then}
+use Rattle.clus_cli.proofs.WritingLaws.{wrote_nothing, some_of_more, some_then}
 
 -- A prefix of a text is one of what begins with it.
 pub some_first : (a b : Option (List ℕ)) (x y : List ℕ) → WroteSome a b x → WroteSome a b (x ++ y)
@@ -31,6 +31,10 @@ printed_behind a b c x y (Err statuses.ReadFault) wrote rest = absurd rest
 printed_behind a b c x y (Err statuses.DiskFault) wrote rest = absurd rest
 printed_behind a b c x y (Err (statuses.BadLog place)) wrote rest = absurd rest
 printed_behind a b c x y (Err (statuses.Fenced held)) wrote rest = absurd rest
+printed_behind a b c x y (Err statuses.TooLong) wrote rest = absurd rest
+printed_behind a b c x y (Err (statuses.BadCommand line column)) wrote rest = absurd rest
+printed_behind a b c x y (Err (statuses.BadReply place)) wrote rest = absurd rest
+printed_behind a b c x y (Err statuses.NoPeer) wrote rest = absurd rest
 
 pub printed_err : (a b : Option (List ℕ)) (text : List ℕ) (status : Status) → IsPrinted a text (Err status) b → Prints a text status b
 printed_err a b text statuses.WriteFault printed = printed
@@ -41,6 +45,10 @@ printed_err a b text statuses.ReadFault printed = printed
 printed_err a b text statuses.DiskFault printed = printed
 printed_err a b text (statuses.BadLog place) printed = printed
 printed_err a b text (statuses.Fenced held) printed = printed
+printed_err a b text statuses.TooLong printed = printed
+printed_err a b text (statuses.BadCommand line column) printed = printed
+printed_err a b text (statuses.BadReply place) printed = printed
+printed_err a b text statuses.NoPeer printed = printed
 
 -- So many of the records were printed, the last of them at that place.
 pub record IsPrintedTo (before now : Option (List ℕ)) (base : ℕ) (records : List FoundRecord) (place done : ℕ) : Type 0 where

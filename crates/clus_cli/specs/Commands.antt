@@ -1,5 +1,5 @@
 -- What the words ask for, and what `format` comes to.
-use Rattle.std.specs.Prelude.{◌≡◌, ◌⊎◌, ℕ, ◌<◌, ◌≤◌, IsTrue, List}
+use Rattle.std.specs.Prelude.{◌≡◌, ◌⊎◌, ℕ, ◌<◌, ◌≤◌, IsTrue, List, Option, Some, None}
 use Rattle.causes.specs.Counts.{Rose}
 use Rattle.registry_defs.specs.Keys.{root_alone}
 use Rattle.registry_defs.specs.Spelling.{registry_text}
@@ -12,14 +12,26 @@ use Rattle.command_words.specs.Commands as commands
 use Rattle.clus_cli.specs.declared.status.Status.{Status}
 use Rattle.clus_cli.specs.declared.status.Status.TheVariants as statuses
 
-abbrev pub AsksSession : List (List ℕ) → Type 0
-AsksSession words = Asks words commands.session
+-- The stamp of a run; it is 0 where none is given.
+abbrev pub stamp_of : Option ℕ → ℕ
+stamp_of None = 0
+stamp_of (Some stamp) = stamp
 
-abbrev pub AsksServe : List (List ℕ) → List ℕ → ℕ → Type 0
-AsksServe words address count = Asks words (commands.serve address count)
+abbrev pub AsksSession : List (List ℕ) → Option ℕ → Type 0
+AsksSession words stamp = Asks words (commands.session stamp)
+
+abbrev pub AsksSomeSession : List (List ℕ) → Type 0
+AsksSomeSession words = (stamp : Option ℕ) × AsksSession words stamp
+
+abbrev pub AsksServe : List (List ℕ) → List ℕ → ℕ → Option ℕ → Type 0
+AsksServe words address count stamp = Asks words (commands.serve address count stamp)
 
 abbrev pub AsksSomeServe : List (List ℕ) → Type 0
-AsksSomeServe words = (count : ℕ) × (address : List ℕ) × AsksServe words address count
+AsksSomeServe words = (count : ℕ) × (address : List ℕ) × (stamp : Option ℕ) × AsksServe words address count stamp
+
+-- The words ask for a node over the log.
+abbrev pub AsksNode : List (List ℕ) → Type 0
+AsksNode words = AsksSomeSession words ⊎ AsksSomeServe words
 
 abbrev pub AsksFormat : List (List ℕ) → ℕ → Type 0
 AsksFormat words cap = Asks words (commands.format cap)
@@ -33,13 +45,20 @@ AsksShowlog words = Asks words commands.showlog
 abbrev pub AsksExport : List (List ℕ) → Type 0
 AsksExport words = Asks words commands.export
 
+abbrev pub AsksPeer : List (List ℕ) → List ℕ → Type 0
+AsksPeer words address = Asks words (commands.ask address)
+
+abbrev pub AsksSomePeer : List (List ℕ) → Type 0
+AsksSomePeer words = (address : List ℕ) × AsksPeer words address
+
 -- The words ask for a command on the disk.
 abbrev pub AsksOfDisk : List (List ℕ) → Type 0
-AsksOfDisk words = AsksSomeFormat words ⊎ (AsksShowlog words ⊎ AsksExport words)
+AsksOfDisk words = AsksNode words ⊎ (AsksSomeFormat words ⊎ (AsksShowlog words ⊎ AsksExport words))
 
 -- The words are no command.
 abbrev pub AsksNothing : List (List ℕ) → Type 0
-AsksNothing words = ¬ AsksSession words × ¬ AsksSomeServe words × ¬ AsksSomeFormat words × ¬ AsksShowlog words × ¬ AsksExport words
+AsksNothing words =
+    ¬ AsksSomeSession words × ¬ AsksSomeServe words × ¬ AsksSomeFormat words × ¬ AsksShowlog words × ¬ AsksExport words × ¬ AsksSomePeer words
 
 -- Memory ran out before the command was known, and this is as it was.
 abbrev pub IsUnbegun : {A : Type 0} → Status → A → A → Type 0

@@ -1,10 +1,7 @@
+pub mod Asking
 pub mod Commands
-pub mod Connections
-pub mod Doors
 pub mod Ends
 pub mod Export
-pub mod Pieces
-pub mod Serving
-pub mod Session
+pub mod Runs
 pub mod Showlog
 pub mod Statuses

@@ -1,10 +1,9 @@
 //! The commands of `mscs` over any input and output: [`run`] is the program but for its real streams.
 #![tactic(auto)]
 
-mod connection;
 mod exporting;
 mod opening;
-mod piece;
+mod peer;
 mod running;
 mod serving;
 mod showing;

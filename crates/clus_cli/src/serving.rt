@@ -1,120 +1,82 @@
-//! The connections of a door, one after another, over one server.
+//! The commands `session` and `serve`: node 1 over the log of the disk.
 
-ghost use Rattle.std.specs.Prelude.{◌≡◌, ◌<◌, ◌≤◌, ◌^◌};
-ghost use Rattle.causes.specs.Counts.{Rose};
-ghost use Rattle.edge_io.specs.Visits.{Tells};
-ghost use Rattle.rpc_calls.specs.Intakes.{stream_length};
-ghost use Rattle.clus_cli.specs.Doors.{Befalls, Converses, Receives, Sends, ServeEnds, ServesAll};
-ghost use Rattle.clus_cli.specs.Pieces.{HasRoom};
-ghost use Rattle.clus_cli.specs.Serving.{Serves};
-ghost use Rattle.clus_cli.specs.Session.{most_stream};
+ghost use Rattle.std.specs.Prelude.{◌≡◌, ◌⊎◌, ◌≢◌, ◌<◌, ◌≤◌, ℕ, List, IsTrue};
+ghost use Rattle.edge_io.specs.Visits.{Faults};
+ghost use Rattle.command_words.specs.Commands as asked;
+ghost use Rattle.single_runs.specs.BadLogs.{IsBadLog};
+ghost use Rattle.clus_cli.specs.Commands.{stamp_of};
+ghost use Rattle.clus_cli.specs.Ends.{MayEnd, outside};
+ghost use Rattle.clus_cli.specs.Runs.{DoorRuns, SessionRuns};
+ghost use Rattle.clus_cli.specs.Showlog.{EndsAtBad};
 
-use crate::connection::{NODE, drain};
-use crate::piece::{PIECE, Taken, feed_piece};
 use crate::status::Status;
-use edge_io::{Door, Failed};
-use registry_server::Server;
-use rpc_calls::{Intake, Side};
-use std::alloc::{AllocError, Global};
+use disk_core::Disk;
+use edge_io::{Door, Sink, Source};
+use single_runs::{serve, session};
+use single_server::Ended;
+use std::alloc::Global;
 
-/// What a connection comes to.
-#[derive(Drop)]
-pub(crate) enum Conversed {
-    Over,
-    NoMemory,
+/// Serves the client's stream.
+pub(crate) fn serve_stream<S: Source, K: Sink, D: Disk>(
+    alloc: Global,
+    stamp: Option<u64>,
+    input: &mut S,
+    output: &mut K,
+    disk: &mut D,
+) -> Status
+    requires disk_size { 34_209_856 ≤ (D.view disk.old).size }
+    ensures runs { SessionRuns (stamp_of stamp) result (S.left input.old) (S.left input.new) (K.written output.old) (K.written output.new) (D.view disk.old) (D.view disk.new) }
+    ensures ends { (old now : Faults) → MayEnd (asked.session stamp) result (outside (S.faults input.old) (K.faults output.old) old (D.view disk.old))
+        (outside (S.faults input.new) (K.faults output.new) now (D.view disk.new)) }
+    ensures bad_log { (place : ℕ) → IsTrue (D.view disk.old).tells → IsBadLog (D.view disk.old).current.seen (D.view disk.old).size place → EndsAtBad place result }
+    ensures unchanged { (place : ℕ) → result ≡ Status.BadLog place → IsTrue (D.view disk.old).tells → (D.view disk.new).current.seen ≡ (D.view disk.old).current.seen }
+    ensures fences { 1 < (D.view disk.old).current.held → result ≡ Status.Fenced ((D.view disk.old).current.held) }
+{
+    Status::from(session(alloc, stamp_or_zero(stamp), input, output, disk))
 }
 
-/// Serves at most `count` connections, and ends the last of them.
-pub(crate) fn serve<G: Door>(alloc: Global, door: &mut G, count: u16) -> Status
-    ensures served { Tells (G.visits door.old) (G.visits door.new) (Serves count result) }
-    ensures ends { ServeEnds result }
-    ensures read { result ≡ Status.ReadFault → Rose (G.faults door.old).accept (G.faults door.new).accept }
+/// Serves the connections of the door, `count` of them at most.
+pub(crate) fn serve_door<D: Disk, G: Door>(
+    alloc: Global,
+    stamp: Option<u64>,
+    count: u16,
+    disk: &mut D,
+    door: &mut G,
+) -> Status
+    requires disk_size { 34_209_856 ≤ (D.view disk.old).size }
+    ensures runs { DoorRuns (stamp_of stamp) count result (G.visits door.old) (G.visits door.new) (D.view disk.old) (D.view disk.new) }
+    ensures ends { (address : List ℕ) (reads now_reads writes now_writes : ℕ) → MayEnd (asked.serve address count stamp) result
+        (outside reads writes (G.faults door.old) (D.view disk.old)) (outside now_reads now_writes (G.faults door.new) (D.view disk.new)) }
+    ensures bad_log { (place : ℕ) → IsTrue (D.view disk.old).tells → IsBadLog (D.view disk.old).current.seen (D.view disk.old).size place → EndsAtBad place result }
+    ensures unchanged { (place : ℕ) → result ≡ Status.BadLog place → IsTrue (D.view disk.old).tells → (D.view disk.new).current.seen ≡ (D.view disk.old).current.seen }
+    ensures fences { 1 < (D.view disk.old).current.held → result ≡ Status.Fenced ((D.view disk.old).current.held) }
 {
-    let status = serve_all(alloc, door, count);
-    door.hang_up();
-    status
+    Status::from(serve(alloc, stamp_or_zero(stamp), count, disk, door))
 }
 
-/// The present connection is ended where the next one is accepted.
-fn serve_all<G: Door>(alloc: Global, door: &mut G, count: u16) -> Status
-    ensures served { Tells (G.visits door.old) (G.visits door.new) (ServesAll count result) }
-    ensures ends { ServeEnds result }
-    ensures read { result ≡ Status.ReadFault → Rose (G.faults door.old).accept (G.faults door.new).accept }
+fn stamp_or_zero(stamp: Option<u64>) -> u64
+    ensures { result ≡ stamp_of stamp }
 {
-    let mut server = match Server::new(alloc, NODE) {
-        Ok(server) => server,
-        Err(AllocError) => return Status::NoMemory,
-    };
-    let mut done = 0;
-    'connections: while done < count {
-        match door.accept() {
-            Ok(true) => {}
-            Ok(false) => return Status::Done,
-            Err(Failed) => return Status::ReadFault,
-        }
-        match converse(alloc, &mut server, door) {
-            Conversed::Over => {}
-            Conversed::NoMemory => return Status::NoMemory,
-        }
-        server.hang_up();
-        done += 1;
-    }
-    Status::Done
-}
-
-/// Answers the connection that is present, until its stream ends or has a fault, or a read or a write
-/// of it fails.
-fn converse<G: Door>(alloc: Global, server: &mut Server, door: &mut G) -> Conversed
-    ensures converses { Befalls (Converses server.old server.new result) (G.visits door.old) (G.visits door.new) }
-    ensures accepts { (G.faults door.new).accept ≡ (G.faults door.old).accept }
-{
-    let mut intake = Intake::new(alloc, Side::Server);
-    let mut taken = 0;
-    'pieces: loop {
-        match receive(door, &mut intake, &mut taken) {
-            Taken::Piece => {}
-            Taken::End => return Conversed::Over,
-            Taken::ReadFault => return Conversed::Over,
-            Taken::NoMemory => return Conversed::NoMemory,
-        }
-        let drained = match drain(alloc, &mut intake, server) {
-            Ok(drained) => drained,
-            Err(AllocError) => return Conversed::NoMemory,
-        };
-        match send(door, &drained.replies) {
-            Ok(()) => {}
-            Err(Failed) => return Conversed::Over,
-        }
-        if drained.is_closed {
-            return Conversed::Over;
-        }
+    match stamp {
+        Some(stamp) => stamp,
+        None => 0,
     }
 }
 
-/// Reads the next piece of the present connection and hands it to the intake; `taken` counts the bytes.
-fn receive<G: Door>(door: &mut G, intake: &mut Intake, taken: &mut u64) -> Taken
-    requires counted { stream_length intake.old ≡ taken.old }
-    requires limit { taken.old ≤ most_stream }
-    requires room { HasRoom intake.old }
-    ensures receives { Receives (G.visits door.old) (G.visits door.new) intake.old intake.new taken.old taken.new result }
-    ensures accepts { (G.faults door.new).accept ≡ (G.faults door.old).accept }
-{
-    let mut buffer = [0u8; PIECE];
-    match door.read(&mut buffer) {
-        Ok(count) => feed_piece(intake, taken, &buffer[..count]),
-        Err(Failed) => Taken::ReadFault,
-    }
-}
+impl From<Ended> for Status {
+    ghost use Rattle.clus_cli.specs.Runs.{status_by};
 
-/// Sends all of `bytes` to the present connection, or stops at the first write that fails, when a
-/// prefix of them is sent.
-fn send<G: Door>(door: &mut G, bytes: &[u8]) -> Result<(), Failed>
-    ensures sends { Sends bytes.now result (G.visits door.old) (G.visits door.new) }
-    ensures accepts { (G.faults door.new).accept ≡ (G.faults door.old).accept }
-{
-    let mut done = 0;
-    'pieces: while done < bytes.len() {
-        done += door.write(&bytes[done..])?;
+    ghost from_gives = { λ ended gives. gives ≡ status_by ended };
+
+    fn from(ended: Ended) -> Status {
+        match ended {
+            Ended::Done => Status::Done,
+            Ended::ReadFault => Status::ReadFault,
+            Ended::WriteFault => Status::WriteFault,
+            Ended::DiskFault => Status::DiskFault,
+            Ended::NoMemory => Status::NoMemory,
+            Ended::BadLog { place } => Status::BadLog { place },
+            Ended::Fenced { held } => Status::Fenced { held },
+        }
     }
-    Ok(())
 }

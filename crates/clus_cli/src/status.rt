@@ -1,5 +1,5 @@
 ghost use Rattle.std.specs.Prelude.{◌≡◌, IfOk, string_bytes};
-ghost use Rattle.clus_cli.specs.Statuses.{number_of, text_of};
+ghost use Rattle.clus_cli.specs.Statuses.{bad_command_text, number_of, text_of};
 
 use std::alloc::{AllocError, Global};
 
@@ -19,10 +19,18 @@ pub enum Status {
     DiskFault,
     /// Memory ran out.
     NoMemory,
-    /// The disk holds no log, or one that is at fault at that place of its image.
+    /// The disk holds no log where one is needed, or one that is at fault at that place of its image.
     BadLog { place: u64 },
     /// The disk holds a greater fencing token than the command's.
     Fenced { held: u32 },
+    /// The input has more bytes than the command takes.
+    TooLong,
+    /// That line of the input is no command of a client; those before it were carried out.
+    BadCommand { line: u32, column: u32 },
+    /// The peer's stream doesn't answer the client, from this place on; or it ends here, where more is awaited.
+    BadReply { place: u64 },
+    /// No connection was to come.
+    NoPeer,
 }
 
 impl Status {
@@ -38,7 +46,11 @@ impl Status {
             Status::DiskFault => 5,
             Status::NoMemory => 6,
             Status::BadLog { .. } => 7,
+            Status::TooLong => 8,
             Status::Fenced { .. } => 9,
+            Status::BadCommand { .. } => 12,
+            Status::BadReply { .. } => 13,
+            Status::NoPeer => 14,
         }
     }
 
@@ -50,7 +62,7 @@ impl Status {
             Status::Done => String::from_str(alloc, ""),
             Status::Usage => String::from_str(
                 alloc,
-                "usage: mscs session, serve ADDR COUNT, format CAP, showlog",
+                "usage: mscs session [STAMP], serve ADDR COUNT [STAMP], format CAP, showlog",
             ),
             Status::ReadFault => String::from_str(alloc, "read fault"),
             Status::WriteFault => String::from_str(alloc, "write fault"),
@@ -58,6 +70,17 @@ impl Status {
             Status::NoMemory => String::from_str(alloc, "no memory"),
             Status::BadLog { place } => format!(in alloc; "bad log: place {place}"),
             Status::Fenced { held } => format!(in alloc; "fenced by claim {held}"),
+            Status::TooLong => String::from_str(alloc, "script too long"),
+            Status::BadCommand { line, column } => bad_command(alloc, *line, *column),
+            Status::BadReply { place } => format!(in alloc; "bad reply: place {place}"),
+            Status::NoPeer => String::from_str(alloc, "no peer"),
         }
     }
+}
+
+#[tactic(auto, unfolding(crate::specs::Statuses::bad_command_text))]
+fn bad_command(alloc: Global, line: u32, column: u32) -> Result<String, AllocError>
+    ensures { IfOk result (λ text. string_bytes text ≡ bad_command_text line column) }
+{
+    format!(in alloc; "bad command: line {line}, column {column}")
 }

@@ -1,14 +1,14 @@
 -- The program as clap sees it, and the texts that its matches stand for.
-use Rattle.std.specs.Prelude.{true, List, [], ◌∷◌, Option, Some, None, codes, if◌then◌else◌}
+use Rattle.std.specs.Prelude.{Bool, true, false, List, [], ◌∷◌, Option, Some, None, codes, if◌then◌else◌}
 use Rattle.std.specs.Prelude.{option_map, option_and_then}
 use Rattle.std.specs.Str.{bytes_eq}
 use Rattle.clap.specs.Words.{App, Row, Rule, Shape, Text, first_of, new_rule, with_subcommand}
 use Rattle.clap.specs.Simple.{new_shape}
-use Rattle.command_words.specs.Forms.{Texts, export, format, serve, session, showlog}
+use Rattle.command_words.specs.Forms.{Texts, ask, export, format, serve, session, showlog}
 
--- An argument that is needed.
-abbrev pub rule : Text → Rule
-rule id = record (new_rule id) { required = true }
+-- An argument, and whether it is needed.
+abbrev pub rule : Text → Bool → Rule
+rule id is_needed = record (new_rule id) { required = is_needed }
 
 -- A subcommand with these arguments.
 abbrev pub shape : Text → List Rule → Shape
@@ -17,11 +17,17 @@ shape name rules = record (new_shape name) { rules = rules }
 abbrev pub app : Text → List Rule → App
 app name rules = record { top = shape name rules; subs = [] }
 
+abbrev pub session_rules : List Rule
+session_rules = rule (codes "stamp") false ∷ []
+
 abbrev pub serve_rules : List Rule
-serve_rules = rule (codes "address") ∷ rule (codes "count") ∷ []
+serve_rules = rule (codes "address") true ∷ rule (codes "count") true ∷ rule (codes "stamp") false ∷ []
 
 abbrev pub format_rules : List Rule
-format_rules = rule (codes "cap") ∷ []
+format_rules = rule (codes "cap") true ∷ []
+
+abbrev pub ask_rules : List Rule
+ask_rules = rule (codes "address") true ∷ []
 
 abbrev pub top : App
 top = record {
@@ -36,25 +42,29 @@ top = record {
 
 -- The program with its first two subcommands, with its first four, and with all.
 abbrev pub to_serve : App
-to_serve = with_subcommand (with_subcommand top (shape (codes "session") [])) (shape (codes "serve") serve_rules)
+to_serve = with_subcommand (with_subcommand top (shape (codes "session") session_rules)) (shape (codes "serve") serve_rules)
 
 abbrev pub to_showlog : App
 to_showlog = with_subcommand (with_subcommand to_serve (shape (codes "format") format_rules)) (shape (codes "showlog") [])
 
 abbrev pub program : App
-program = with_subcommand to_showlog (shape (codes "export") [])
+program = with_subcommand (with_subcommand to_showlog (shape (codes "export") [])) (shape (codes "ask") ask_rules)
 
 -- The texts that the rows of a subcommand's matches stand for.
-abbrev pub serve_texts : Option Text → Option Text → Option Texts
-serve_texts address count = option_and_then (λ a. option_map (serve a) count) address
+abbrev pub session_texts : Option Text → Option Texts
+session_texts stamp = Some (session stamp)
+
+abbrev pub serve_texts : Option Text → Option Text → Option Text → Option Texts
+serve_texts address count stamp = option_and_then (λ a. option_map (λ n. serve a n stamp) count) address
 
 abbrev pub texts_by : Text → List Row → Option Texts
 texts_by name rows =
-    if bytes_eq name (codes "session") then Some session
-    else if bytes_eq name (codes "serve") then serve_texts (first_of (codes "address") rows) (first_of (codes "count") rows)
+    if bytes_eq name (codes "session") then session_texts (first_of (codes "stamp") rows)
+    else if bytes_eq name (codes "serve") then serve_texts (first_of (codes "address") rows) (first_of (codes "count") rows) (first_of (codes "stamp") rows)
     else if bytes_eq name (codes "format") then option_map format (first_of (codes "cap") rows)
     else if bytes_eq name (codes "showlog") then Some showlog
     else if bytes_eq name (codes "export") then Some export
+    else if bytes_eq name (codes "ask") then option_map ask (first_of (codes "address") rows)
     else None
 
 abbrev pub texts_in : Option (Text × List Row) → Option Texts

@@ -3,8 +3,8 @@
 ghost use Rattle.std.specs.Prelude.{◌≡◌, ◌↔◌, IfOk, IfSome, IsTrue, Some, map, option_map, slice_index, string_bytes};
 ghost use Rattle.std.specs.List.{All};
 ghost use Rattle.clap.specs.Words.{first_of, found_of, rows_of, subcommand_rows_of};
-ghost use Rattle.command_words.specs.Forms.{HasForm, IsPlain, Texts, format, text_in, texts_of};
-ghost use Rattle.command_words.specs.Grammar.{serve_texts, texts_by, texts_in};
+ghost use Rattle.command_words.specs.Forms.{HasForm, IsPlain, Texts, ask, format, text_in, texts_of};
+ghost use Rattle.command_words.specs.Grammar.{serve_texts, session_texts, texts_by, texts_in};
 
 use crate::grammar::matches_of;
 use clap::ArgMatches;
@@ -13,11 +13,22 @@ use std::alloc::{AllocError, Global};
 /// A form with its words.
 #[derive(Clone, Copy, Debug, PartialEq, Eq)]
 pub(crate) enum Form<'a> {
-    Session,
-    Serve { address: &'a str, count: &'a str },
-    Format { cap: &'a str },
+    Session {
+        stamp: Option<&'a str>,
+    },
+    Serve {
+        address: &'a str,
+        count: &'a str,
+        stamp: Option<&'a str>,
+    },
+    Format {
+        cap: &'a str,
+    },
     Showlog,
     Export,
+    Ask {
+        address: &'a str,
+    },
 }
 
 /// The form that the words have. clap would take `-` and what begins with it in other ways, so no such
@@ -72,11 +83,16 @@ fn form_by<'a>(name: &str, given: &ArgMatches<'a>) -> Option<Form<'a>>
     ensures { option_map texts_of result ≡ texts_by name.now (rows_of (found_of given.now)) }
 {
     match name {
-        "session" => Some(Form::Session),
-        "serve" => serve_form(word_for(given, "address"), word_for(given, "count")),
+        "session" => session_form(word_for(given, "stamp")),
+        "serve" => serve_form(
+            word_for(given, "address"),
+            word_for(given, "count"),
+            word_for(given, "stamp"),
+        ),
         "format" => format_form(word_for(given, "cap")),
         "showlog" => Some(Form::Showlog),
         "export" => Some(Form::Export),
+        "ask" => ask_form(word_for(given, "address")),
         _ => None,
     }
 }
@@ -88,11 +104,25 @@ fn word_for<'a>(given: &ArgMatches<'a>, id: &str) -> Option<&'a str>
     given.get_str(id)
 }
 
-fn serve_form<'a>(address: Option<&'a str>, count: Option<&'a str>) -> Option<Form<'a>>
-    ensures { option_map texts_of result ≡ serve_texts (text_in address.entry) (text_in count.entry) }
+fn session_form<'a>(stamp: Option<&'a str>) -> Option<Form<'a>>
+    ensures { option_map texts_of result ≡ session_texts (text_in stamp.entry) }
+{
+    Some(Form::Session { stamp })
+}
+
+fn serve_form<'a>(
+    address: Option<&'a str>,
+    count: Option<&'a str>,
+    stamp: Option<&'a str>,
+) -> Option<Form<'a>>
+    ensures { option_map texts_of result ≡ serve_texts (text_in address.entry) (text_in count.entry) (text_in stamp.entry) }
 {
     match (address, count) {
-        (Some(address), Some(count)) => Some(Form::Serve { address, count }),
+        (Some(address), Some(count)) => Some(Form::Serve {
+            address,
+            count,
+            stamp,
+        }),
         _ => None,
     }
 }
@@ -102,6 +132,15 @@ fn format_form<'a>(cap: Option<&'a str>) -> Option<Form<'a>>
 {
     match cap {
         Some(cap) => Some(Form::Format { cap }),
+        None => None,
+    }
+}
+
+fn ask_form<'a>(address: Option<&'a str>) -> Option<Form<'a>>
+    ensures { option_map texts_of result ≡ option_map ask (text_in address.entry) }
+{
+    match address {
+        Some(address) => Some(Form::Ask { address }),
         None => None,
     }
 }

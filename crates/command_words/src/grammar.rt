@@ -3,7 +3,7 @@
 ghost use Rattle.std.specs.Prelude.{◌≡◌, ◌≢◌, ◌∷◌, [], true, false, codes, map, string_bytes, IfOk, MatchOption};
 ghost use Rattle.clap.specs.declared.builder.command.Command.TheViews.{out-Command};
 ghost use Rattle.clap.specs.Words.{app_of, fault_of, rule_of, subcommand_of, subcommand_rows_of};
-ghost use Rattle.command_words.specs.Grammar.{app, format_rules, program, rule, serve_rules, to_serve, to_showlog, top};
+ghost use Rattle.command_words.specs.Grammar.{app, ask_rules, format_rules, program, rule, serve_rules, session_rules, to_serve, to_showlog, top};
 
 use clap::error::ErrorKind;
 use clap::{Arg, ArgMatches, Command};
@@ -30,7 +30,10 @@ pub(crate) fn matches_of<'a>(
 fn program<'a>(alloc: Global) -> Result<Command<'a>, AllocError>
     ensures { IfOk result (λ c. app_of c ≡ program) }
 {
-    to_showlog(alloc)?.subcommand(bare(alloc, "export"))
+    let ask_command = ask(alloc)?;
+    to_showlog(alloc)?
+        .subcommand(bare(alloc, "export"))?
+        .subcommand(ask_command)
 }
 
 /// The program with its first four subcommands.
@@ -47,9 +50,10 @@ fn to_showlog<'a>(alloc: Global) -> Result<Command<'a>, AllocError>
 fn to_serve<'a>(alloc: Global) -> Result<Command<'a>, AllocError>
     ensures { IfOk result (λ c. app_of c ≡ to_serve) }
 {
+    let session_command = session(alloc)?;
     let serve_command = serve(alloc)?;
     top(alloc)
-        .subcommand(bare(alloc, "session"))?
+        .subcommand(session_command)?
         .subcommand(serve_command)
 }
 
@@ -63,18 +67,31 @@ fn top<'a>(alloc: Global) -> Command<'a>
         .subcommand_required(true)
 }
 
+fn session<'a>(alloc: Global) -> Result<Command<'a>, AllocError>
+    ensures { IfOk result (λ c. (app_of c ≡ app (codes "session") session_rules) × ((out-Command c).has_globals ≡ false)) }
+{
+    Command::new(alloc, "session").arg(given(alloc, "stamp"))
+}
+
 fn serve<'a>(alloc: Global) -> Result<Command<'a>, AllocError>
     ensures { IfOk result (λ c. (app_of c ≡ app (codes "serve") serve_rules) × ((out-Command c).has_globals ≡ false)) }
 {
     Command::new(alloc, "serve")
         .arg(needed(alloc, "address"))?
-        .arg(needed(alloc, "count"))
+        .arg(needed(alloc, "count"))?
+        .arg(given(alloc, "stamp"))
 }
 
 fn format_log<'a>(alloc: Global) -> Result<Command<'a>, AllocError>
     ensures { IfOk result (λ c. (app_of c ≡ app (codes "format") format_rules) × ((out-Command c).has_globals ≡ false)) }
 {
     Command::new(alloc, "format").arg(needed(alloc, "cap"))
+}
+
+fn ask<'a>(alloc: Global) -> Result<Command<'a>, AllocError>
+    ensures { IfOk result (λ c. (app_of c ≡ app (codes "ask") ask_rules) × ((out-Command c).has_globals ≡ false)) }
+{
+    Command::new(alloc, "ask").arg(needed(alloc, "address"))
 }
 
 fn bare<'a>(alloc: Global, name: &'a str) -> Command<'a>
@@ -84,8 +101,16 @@ fn bare<'a>(alloc: Global, name: &'a str) -> Command<'a>
 }
 
 fn needed<'a>(alloc: Global, id: &'a str) -> Arg<'a>
-    ensures rule { rule_of result ≡ rule id.entry.now }
+    ensures rule { rule_of result ≡ rule id.entry.now true }
     ensures local { result.global ≡ false }
 {
     Arg::new(alloc, id).required(true)
+}
+
+/// An argument that may be left out.
+fn given<'a>(alloc: Global, id: &'a str) -> Arg<'a>
+    ensures rule { rule_of result ≡ rule id.entry.now false }
+    ensures local { result.global ≡ false }
+{
+    Arg::new(alloc, id)
 }

@@ -54,16 +54,23 @@ fn run_words(rt: &HostRuntime, words: &[String]) -> Status {
     )
 }
 
-/// The connections that come to the address of `serve`; none where the words are another command.
+/// The connections that come to the address of `serve`, or the one to that of `ask`; none where the words
+/// are another command.
 fn door_for<'a>(
     rt: &'a HostRuntime,
     words: &[String],
 ) -> Result<TcpDoor<'a, HostRuntime>, AllocError> {
-    let (address, count) = match command_of(rt.alloc(), words)? {
-        Some(Command::Serve { address, count }) => (address, count),
-        _ => ("", 0),
-    };
-    Ok(TcpDoor::at(rt, String::from_str(rt.alloc(), address)?, count.into()))
+    match command_of(rt.alloc(), words)? {
+        Some(Command::Serve { address, count, .. }) => Ok(TcpDoor::at(
+            rt,
+            String::from_str(rt.alloc(), address)?,
+            count.into(),
+        )),
+        Some(Command::Ask { address }) => {
+            Ok(TcpDoor::dial(rt, String::from_str(rt.alloc(), address)?))
+        }
+        _ => Ok(TcpDoor::at(rt, String::new(rt.alloc()), 0)),
+    }
 }
 
 /// The words behind the program's name. One that isn't UTF-8 makes them no command.

@@ -7,18 +7,21 @@
 //! | `let NAME BYTES` | names these bytes |
 //! | `input BYTES` | appends to the input |
 //! | `request ID OPNUM BYTES` | appends a request to the input: one fragment of that call id and operation number, on context 0, with these bytes as stub, or none |
+//! | `line TEXT` | appends this text and a line feed to the input |
 //! | `connection` | what was appended so far is the input of the next connection of the door |
 //! | `piece N` | inputs come in pieces of N bytes from here on |
 //! | `fail read N`, `write`, `door`, `disk` | this call fails in the next run, counted from 1; of the disk, from this line on |
 //! | `run WORD ..` | runs the command; afterwards input, connections and failures are forgotten |
-//! | `put PLACE BYTES` | writes to the disk, which holds zeros at first |
+//! | `disk` | the disk is a new one, which holds zeros |
+//! | `keep` | the next run is over the disk as it is |
+//! | `put PLACE BYTES` | writes to the disk |
 //! | `claim N` | makes N the fencing token of the disk |
 //! | `bytes PLACE COUNT` | prints bytes of the disk |
 //! | `calls` | prints how many writes, syncs and claims the disk had |
 //!
-//! BYTES are words: hex, `HEX*COUNT` for the same COUNT times, or `$NAME`. In the words of `run` an underscore stands
+//! A `session` or a `serve` has a new disk, unless one of the lines on the disk stands before it. BYTES are words: hex, `HEX*COUNT` for the same COUNT times, or `$NAME`. In the words of `run` an underscore stands
 //! for a space, and `""` for the empty word. A run prints its status with its text; what was written, in hex behind
-//! `wrote` or, where the command is `showlog` or `export`, as it is; and what each ended connection was sent, in hex
+//! `wrote` or, where the command is `showlog`, `export` or `ask`, as it is; and what each ended connection was sent, in hex
 //! behind `sent`. Each fragment has a line, behind `then` where it isn't the first; what is no whole fragment has one
 //! too. Nothing is cut. Any other line ends the program, with its number.
 #![tactic(auto)]

@@ -32,6 +32,8 @@ fn play_word(stage: &mut Stage, word: &str) -> Result<String, RowFault> {
             return Ok(format!(in alloc; "calls {calls}\n")?);
         }
         "connection" => stage.end_connection()?,
+        "disk" => stage.renew_disk()?,
+        "keep" => stage.is_kept = true,
         _ => return Err(RowFault::Bad),
     }
     Ok(String::new(alloc))
@@ -45,6 +47,11 @@ fn prepare(stage: &mut Stage, word: &str, rest: &str) -> Result<(), RowFault> {
             stage.input.extend_from_slice(&bytes)?;
             Ok(())
         }
+        "line" => {
+            stage.input.extend_from_slice(rest.as_bytes())?;
+            stage.input.push(b'\n')?;
+            Ok(())
+        }
         "request" => request_row(stage, rest),
         "let" => {
             let (name, text) = rest.split_once(' ').ok_or(RowFault::Bad)?;
@@ -54,7 +61,7 @@ fn prepare(stage: &mut Stage, word: &str, rest: &str) -> Result<(), RowFault> {
         "piece" => stage.set_piece(rest.parse()?),
         "fail" => fail_row(stage, rest),
         "put" => put_row(stage, rest),
-        "claim" => stage.disk.claim(rest.parse()?).map_err(|_| RowFault::Bad),
+        "claim" => claim_row(stage, rest),
         _ => Err(RowFault::Bad),
     }
 }
@@ -73,7 +80,10 @@ fn fail_row(stage: &mut Stage, text: &str) -> Result<(), RowFault> {
         "read" => stage.failing.reads.push(number)?,
         "write" => stage.failing.writes.push(number)?,
         "door" => stage.failing.doors.push(number)?,
-        "disk" => stage.disk.fail_in(number),
+        "disk" => {
+            stage.disk.fail_in(number);
+            stage.is_kept = true;
+        }
         _ => return Err(RowFault::Bad),
     }
     Ok(())
@@ -82,7 +92,13 @@ fn fail_row(stage: &mut Stage, text: &str) -> Result<(), RowFault> {
 fn put_row(stage: &mut Stage, text: &str) -> Result<(), RowFault> {
     let (place, text) = text.split_once(' ').ok_or(RowFault::Bad)?;
     let bytes = bytes_of(stage.alloc, &stage.names, text)?;
+    stage.is_kept = true;
     stage.put(place.parse()?, &bytes)
+}
+
+fn claim_row(stage: &mut Stage, text: &str) -> Result<(), RowFault> {
+    stage.is_kept = true;
+    stage.disk.claim(text.parse()?).map_err(|_| RowFault::Bad)
 }
 
 fn bytes_row(stage: &mut Stage, text: &str) -> Result<String, RowFault> {

@@ -12,6 +12,9 @@ use std::alloc::Global;
 pub(crate) fn run_row(stage: &mut Stage, text: Option<&str>) -> Result<String, RowFault> {
     let alloc = stage.alloc;
     let words = words_of(alloc, text)?;
+    if !stage.is_kept && is_node(&words) {
+        stage.renew_disk()?;
+    }
     let mut source = stage.take_source();
     let mut sink = stage.take_sink();
     let mut door = stage.take_door();
@@ -27,7 +30,16 @@ pub(crate) fn run_row(stage: &mut Stage, text: Option<&str>) -> Result<String, R
         &mut door,
     );
     stage.disk.fail_in(0);
+    stage.is_kept = false;
     tell(alloc, &words, &status, &sink, &door)
+}
+
+/// Whether the command runs a node over the disk.
+fn is_node(words: &[String]) -> bool {
+    match words.first() {
+        Some(word) => word.as_str() == "session" || word.as_str() == "serve",
+        None => false,
+    }
 }
 
 fn words_of(alloc: Global, text: Option<&str>) -> Result<Vec<String>, RowFault> {
@@ -66,7 +78,7 @@ fn tell(
 
 /// Whether the command writes text.
 fn is_text(word: &str) -> bool {
-    word == "showlog" || word == "export"
+    word == "showlog" || word == "export" || word == "ask"
 }
 
 fn status_line(alloc: Global, status: &Status) -> Result<String, RowFault> {

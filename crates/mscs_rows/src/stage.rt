@@ -33,6 +33,8 @@ pub(crate) struct Stage {
     pub(crate) input: Vec<u8>,
     pub(crate) failing: Failing,
     pub(crate) disk: MemDisk,
+    /// Whether the next run is over the disk as it is, whatever it does.
+    pub(crate) is_kept: bool,
     connections: Vec<Vec<u8>>,
     piece: u16,
 }
@@ -45,9 +47,17 @@ impl Stage {
             input: Vec::new(alloc),
             failing: Failing::new(alloc),
             disk: MemDisk::new(alloc, DISK)?,
+            is_kept: false,
             connections: Vec::new(alloc),
             piece: 4096,
         })
+    }
+
+    /// The disk is a new one.
+    pub(crate) fn renew_disk(&mut self) -> Result<(), AllocError> {
+        self.disk = MemDisk::new(self.alloc, DISK)?;
+        self.is_kept = true;
+        Ok(())
     }
 
     pub(crate) fn set_piece(&mut self, piece: u16) -> Result<(), RowFault> {
