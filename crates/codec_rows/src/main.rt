@@ -30,34 +30,10 @@ mod units_of;
 mod viewing;
 mod words;
 
-use row_words::{Names, RowFault};
-use rows::play;
-use std::io;
+use row_words::play_lines;
+use rows::Stage;
 use std::process::ExitCode;
 
 fn main(rt: HostRuntime) -> ExitCode {
-    match play_all(&rt) {
-        Ok(true) => ExitCode::from(0),
-        Ok(false) => ExitCode::from(1),
-        Err(_) => ExitCode::from(2),
-    }
-}
-
-/// Whether each line of the input was a row.
-fn play_all(rt: &HostRuntime) -> io::Result<bool> {
-    let alloc = rt.alloc();
-    let mut names = Names::new(alloc);
-    let mut number = 0u64;
-    for line in rt.lines(alloc) {
-        number = number.saturating_add(1);
-        match play(alloc, &mut names, line?.as_str()) {
-            Ok(text) => print!(rt; "{text}")?,
-            Err(RowFault::Memory) => return Err(io::Error::from(io::ErrorKind::OutOfMemory)),
-            Err(RowFault::Bad) => {
-                println!(rt; "bad line {number}")?;
-                return Ok(false);
-            }
-        }
-    }
-    Ok(true)
+    play_lines(&rt, &mut Stage::new(rt.alloc()))
 }

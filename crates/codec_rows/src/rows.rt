@@ -5,14 +5,32 @@ use crate::naming::{join_row, name_row, path_row, same_row, units_row};
 use crate::recording::{first_again, message_again, record_again, tell_again, update_again};
 use crate::viewing::{incarnation_row, view_row};
 use crate::words::Words;
-use row_words::{Names, RowFault, bytes_of};
+use row_words::{Names, RowFault, Rows, bytes_of};
 use std::alloc::Global;
 
-/// Plays a row, and gives what it prints.
-pub(crate) fn play(alloc: Global, names: &mut Names, line: &str) -> Result<String, RowFault> {
-    if line.is_empty() || line.starts_with('#') {
-        return Ok(format!(in alloc; "{line}\n")?);
+/// What rows have named so far.
+#[derive(Drop)]
+pub(crate) struct Stage {
+    alloc: Global,
+    names: Names,
+}
+
+impl Stage {
+    pub(crate) fn new(alloc: Global) -> Stage {
+        Stage {
+            alloc,
+            names: Names::new(alloc),
+        }
     }
+}
+
+impl Rows for Stage {
+    fn play(&mut self, line: &str) -> Result<String, RowFault> {
+        play(self.alloc, &mut self.names, line)
+    }
+}
+
+fn play(alloc: Global, names: &mut Names, line: &str) -> Result<String, RowFault> {
     let (row, text) = line.split_once(' ').unwrap_or((line, ""));
     match row {
         "let" => let_row(alloc, names, text),

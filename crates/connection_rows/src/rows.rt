@@ -4,14 +4,17 @@ use crate::stage::{CAP, Stage};
 use crate::telling::{effect_text, effects_text, finished_text, taken_text};
 use client_connections::Connections;
 use clus_registry::{Outcome, Registry};
-use row_words::{RowFault, bytes_of};
+use row_words::{RowFault, Rows, bytes_of};
+
+impl Rows for Stage {
+    fn play(&mut self, line: &str) -> Result<String, RowFault> {
+        play(self, line)
+    }
+}
 
 /// Plays a row, and gives what it prints.
-pub(crate) fn play(stage: &mut Stage, line: &str) -> Result<String, RowFault> {
+fn play(stage: &mut Stage, line: &str) -> Result<String, RowFault> {
     let alloc = stage.alloc;
-    if line.is_empty() || line.starts_with('#') {
-        return Ok(format!(in alloc; "{line}\n")?);
-    }
     match line.split_once(' ') {
         None => play_word(stage, line),
         Some(("connect", conn)) => connect_row(stage, conn.parse()?),

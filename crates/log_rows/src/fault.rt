@@ -14,6 +14,15 @@ pub(crate) enum PlayFault {
     Answered(OpenFault),
 }
 
+impl From<PlayFault> for RowFault {
+    fn from(fault: PlayFault) -> RowFault {
+        match fault {
+            PlayFault::Memory => RowFault::Memory,
+            _ => RowFault::Bad,
+        }
+    }
+}
+
 impl From<AllocError> for PlayFault {
     fn from(_: AllocError) -> PlayFault {
         PlayFault::Memory

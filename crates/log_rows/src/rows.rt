@@ -8,15 +8,18 @@ use crate::stage::Stage;
 use crate::sweep::{crashes_row, failures_row};
 use crate::telling::{answer_text, found_text};
 use quorum_log::image_size;
-use row_words::bytes_of;
+use row_words::{RowFault, Rows, bytes_of};
 use std::alloc::Global;
 
-/// Plays a row, and gives what it prints.
-pub(crate) fn play(stage: &mut Stage, line: &str) -> Result<String, PlayFault> {
-    let alloc = stage.alloc;
-    if line.is_empty() || line.starts_with('#') {
-        return Ok(format!(in alloc; "{line}\n")?);
+impl Rows for Stage {
+    fn play(&mut self, line: &str) -> Result<String, RowFault> {
+        Ok(play(self, line)?)
     }
+}
+
+/// Plays a row, and gives what it prints.
+fn play(stage: &mut Stage, line: &str) -> Result<String, PlayFault> {
+    let alloc = stage.alloc;
     match line.split_once(' ') {
         None => play_word(stage, line),
         Some(("format" | "append" | "checkpoint", _)) => call_row(stage, line),

@@ -5,15 +5,18 @@ use crate::telling::{effects_text, node_text};
 use crate::views::view_in;
 use cluster_member::Effects;
 use gum_messages::{MessageFault, decode};
-use row_words::{RowFault, bytes_of};
+use row_words::{RowFault, Rows, bytes_of};
 use update_records::{RecordFault, decode_update};
 
-/// Plays a row, and gives what it prints.
-pub(crate) fn play(stage: &mut Stage, line: &str) -> Result<String, RowFault> {
-    let alloc = stage.alloc;
-    if line.is_empty() || line.starts_with('#') {
-        return Ok(format!(in alloc; "{line}\n")?);
+impl Rows for Stage {
+    fn play(&mut self, line: &str) -> Result<String, RowFault> {
+        play(self, line)
     }
+}
+
+/// Plays a row, and gives what it prints.
+fn play(stage: &mut Stage, line: &str) -> Result<String, RowFault> {
+    let alloc = stage.alloc;
     let (word, text) = line.split_once(' ').unwrap_or((line, ""));
     match word {
         "let" | "claim" | "fail" | "clock" => {

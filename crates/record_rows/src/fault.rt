@@ -17,6 +17,15 @@ pub(crate) enum PlayFault {
     NotAdded(AddFault),
 }
 
+impl From<PlayFault> for RowFault {
+    fn from(fault: PlayFault) -> RowFault {
+        match fault {
+            PlayFault::Memory => RowFault::Memory,
+            _ => RowFault::Bad,
+        }
+    }
+}
+
 impl From<AllocError> for PlayFault {
     fn from(_: AllocError) -> PlayFault {
         PlayFault::Memory

@@ -28,48 +28,13 @@ mod rows;
 mod stage;
 mod telling;
 
-use fault::PlayFault;
-use rows::play;
+use row_words::play_lines;
 use stage::Stage;
-use std::io;
 use std::process::ExitCode;
 
 fn main(rt: HostRuntime) -> ExitCode {
-    match play_all(&rt) {
-        Ok(true) => ExitCode::from(0),
-        Ok(false) => ExitCode::from(1),
-        Err(_) => ExitCode::from(2),
-    }
-}
-
-/// Whether each line of the input was a row.
-fn play_all(rt: &HostRuntime) -> io::Result<bool> {
     match Stage::new(rt.alloc()) {
-        Ok(mut stage) => play_lines(rt, &mut stage),
-        Err(_) => Err(io::Error::from(io::ErrorKind::OutOfMemory)),
-    }
-}
-
-fn play_lines(rt: &HostRuntime, stage: &mut Stage) -> io::Result<bool> {
-    let mut number = 0u64;
-    for line in rt.lines(rt.alloc()) {
-        number = number.saturating_add(1);
-        if !play_line(rt, stage, line?.as_str())? {
-            println!(rt; "bad line {number}")?;
-            return Ok(false);
-        }
-    }
-    Ok(true)
-}
-
-/// Plays a line, and tells whether it was a row.
-fn play_line(rt: &HostRuntime, stage: &mut Stage, line: &str) -> io::Result<bool> {
-    match play(stage, line) {
-        Ok(text) => {
-            print!(rt; "{text}")?;
-            Ok(true)
-        }
-        Err(PlayFault::Memory) => Err(io::Error::from(io::ErrorKind::OutOfMemory)),
-        Err(_) => Ok(false),
+        Ok(mut stage) => play_lines(&rt, &mut stage),
+        Err(_) => ExitCode::from(2),
     }
 }

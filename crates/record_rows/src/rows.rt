@@ -3,15 +3,18 @@
 use crate::fault::PlayFault;
 use crate::stage::Stage;
 use crate::telling::answer_line;
-use row_words::bytes_of;
+use row_words::{RowFault, Rows, bytes_of};
 use std::alloc::Global;
 
-/// Plays a row, and gives what it prints.
-pub(crate) fn play(stage: &mut Stage, line: &str) -> Result<String, PlayFault> {
-    let alloc = stage.alloc;
-    if line.is_empty() || line.starts_with('#') {
-        return Ok(format!(in alloc; "{line}\n")?);
+impl Rows for Stage {
+    fn play(&mut self, line: &str) -> Result<String, RowFault> {
+        Ok(play(self, line)?)
     }
+}
+
+/// Plays a row, and gives what it prints.
+fn play(stage: &mut Stage, line: &str) -> Result<String, PlayFault> {
+    let alloc = stage.alloc;
     match line.split_once(' ') {
         None if line == "state" => state_row(stage),
         None if line == "checkpoint" => ok_line(alloc, stage.checkpoint()),

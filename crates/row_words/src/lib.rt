@@ -5,8 +5,10 @@
 
 mod fault;
 mod names;
+mod playing;
 mod words;
 
 pub use fault::RowFault;
 pub use names::Names;
+pub use playing::{Rows, play_lines};
 pub use words::bytes_of;
