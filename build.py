@@ -101,21 +101,51 @@ def processors():
     return max(1, min(len(os.sched_getaffinity(0)), memory // PROOF_BYTES))
 
 
-def copy_crates(work, crates):
+def copy_crates(lane, crates):
     """Puts the sources of these crates into the folder, and keeps what was proved there."""
-    lines = (TOP / "crates.txt").read_text().splitlines()
+    (lane / "crates").mkdir(parents=True, exist_ok=True)
     for crate in crates:
-        folder = work / "crates" / crate
+        folder = lane / "crates" / crate
         for part in PARTS:
             shutil.rmtree(folder / part, ignore_errors=True)
             if (TOP / "crates" / crate / part).is_dir():
                 shutil.copytree(TOP / "crates" / crate / part, folder / part)
-    for folder in (work / "crates").iterdir():
+    for folder in (lane / "crates").iterdir():
         if folder.name not in crates:
             shutil.rmtree(folder)
+    lines = (TOP / "crates.txt").read_text().splitlines()
     kept = [it for it in lines if it.partition(":")[0].split()[:1] and it.partition(":")[0].split()[0] in crates]
-    (work / "crates.txt").write_text("\n".join(kept) + "\n")
-    shutil.copyfile(TOP / "HANDLES", work / "HANDLES")
+    (lane / "crates.txt").write_text("\n".join(kept) + "\n")
+    shutil.copyfile(TOP / "HANDLES", lane / "HANDLES")
+
+
+class Lanes:
+    """Copies of the crates, one for each crate that may be in proof at a time: the toolchain locks the folder of the
+    crate that it works in and those of all crates below it, so in one copy the proofs would wait for one another."""
+
+    def __init__(self, work, crates, count):
+        self.all = [work / f"lane-{number}" for number in range(count)]
+        self.idle = list(self.all)
+        for lane in self.all:
+            copy_crates(lane, crates)
+
+    def take(self, crate):
+        """An idle copy: where there is one, one in which the crate was proved before."""
+        lane = max(self.idle, key=lambda it: (it / "crates" / crate / "out" / "incremental").is_dir())
+        self.idle.remove(lane)
+        return lane
+
+    def give_back(self, lane):
+        self.idle.append(lane)
+
+    def share(self, crate, lane):
+        """Gives the library that was built of the crate in one copy to the others."""
+        made = lane / "crates" / crate / "out" / "rlib"
+        for other in self.all:
+            to = other / "crates" / crate / "out" / "rlib"
+            if other != lane and made.is_dir():
+                shutil.rmtree(to, ignore_errors=True)
+                shutil.copytree(made, to, copy_function=os.link)
 
 
 def lines_ahead(crates, listed):
@@ -152,12 +182,12 @@ class Progress:
         return f"{seconds // 60} min {seconds % 60:02} s"
 
 
-def run_rt(words, crate, work, log):
+def run_rt(words, crate, lane, log):
     """Runs the toolchain's command in the folder of the crate, logs what it says behind the crate's name, and returns
     its status and the last lines."""
     last = collections.deque(maxlen=LAST_LINES)
     streams = {"stdin": subprocess.DEVNULL, "stdout": subprocess.PIPE, "stderr": subprocess.STDOUT}
-    with subprocess.Popen(["rt", *words], cwd=work / "crates" / crate, text=True, errors="replace", **streams) as ran:
+    with subprocess.Popen(["rt", *words], cwd=lane / "crates" / crate, text=True, errors="replace", **streams) as ran:
         for line in ran.stdout:
             line = f"{crate}: {line.rstrip()}"
             last.append(line)
@@ -166,18 +196,18 @@ def run_rt(words, crate, work, log):
     return ran.returncode, list(last)
 
 
-def prove_libraries(work, crates, listed, log, progress):
-    """Proves the crates, each behind those that it stands on: as many at once as there are processors, those with the
-    longest chain above them first. Where fewer are ready, each gets more of the processors. Returns what the first
+def prove_libraries(lanes, crates, listed, log, progress):
+    """Proves the crates, each behind those that it stands on: as many at once as there are copies of them, those with
+    the longest chain above them first. Where fewer are ready, each gets more of the processors. Returns what the first
     command said at the end that failed, or nothing."""
     ahead = lines_ahead(crates, listed)
     waiting = sorted(crates, key=lambda it: -ahead[it])
-    done, running, free, failed = set(), {}, processors(), []
+    done, running, free, failed = set(), {}, len(lanes.all), []
 
-    def prove(crate, jobs):
+    def prove(crate, lane, jobs):
         timer = progress.soon(crate)
         try:
-            return run_rt(["lib", "--jobs", str(jobs)], crate, work, log)
+            return run_rt(["lib", "--jobs", str(jobs)], crate, lane, log)
         finally:
             timer.cancel()
 
@@ -185,37 +215,40 @@ def prove_libraries(work, crates, listed, log, progress):
         while True:
             ready = [it for it in waiting if done.issuperset(listed[it])][:free] if not failed else []
             for place, crate in enumerate(ready):
-                share = -(-free // (len(ready) - place))
-                jobs = min(share, MOST_JOBS)
+                jobs = min(-(-free // (len(ready) - place)), MOST_JOBS)
+                lane = lanes.take(crate)
                 waiting.remove(crate)
                 free -= jobs
-                running[pool.submit(prove, crate, jobs)] = crate, jobs
+                running[pool.submit(prove, crate, lane, jobs)] = crate, lane, jobs
             if not running:
                 return failed
             for ended in concurrent.futures.wait(running, return_when=concurrent.futures.FIRST_COMPLETED).done:
-                crate, jobs = running.pop(ended)
+                crate, lane, jobs = running.pop(ended)
                 free += jobs
+                lanes.give_back(lane)
                 status, last = ended.result()
                 if status:
                     failed = failed or last or [f"{crate}: rt ended with status {status}"]
                 else:
+                    lanes.share(crate, lane)
                     done.add(crate)
                     progress.is_done(crate)
 
 
-def prove_crates(work, crates, listed, log):
-    """Proves all crates, the program's last, and builds the program in the work folder. Returns what the command said
-    at the end that failed, or nothing."""
+def prove_crates(lanes, crates, listed, log):
+    """Proves all crates, the program's last, and builds the program. Returns the program's file, and what the command
+    said at the end that failed, or nothing."""
     progress = Progress(len(crates))
-    copy_crates(work, crates)
     *libraries, program = crates
-    failed = prove_libraries(work, libraries, listed, log, progress)
+    lane = lanes.all[0]
+    made = lane / "crates" / program / "out" / program
+    failed = prove_libraries(lanes, libraries, listed, log, progress)
     if failed:
-        return failed
+        return made, failed
     tell(f"proving {program}, and building the program, after {progress.minutes()}")
-    # With an empty session the program ends with 0; any other status is one of rt's.
-    status, last = run_rt(["run", "--", "session"], program, work, log)
-    return (last or [f"{program}: rt ended with status {status}"]) if status else []
+    # A drill touches no file, and the program ends with 0; any other status is one of rt's.
+    status, last = run_rt(["run", "--", "drill", "1", "1"], program, lane, log)
+    return made, (last or [f"{program}: rt ended with status {status}"]) if status else []
 
 
 def build(crates, listed, work, sources):
@@ -223,10 +256,8 @@ def build(crates, listed, work, sources):
     tell(f"the program isn't built from these sources yet: {len(crates)} crates are to be proved first")
     tell(f"a first build takes about {FIRST_BUILD_MINUTES} minutes on 4 free processors; later ones prove what changed")
     tell(f"the work is in {work}, the log of it in {log_path}")
-    (work / "crates").mkdir(exist_ok=True)
     with open(log_path, "w") as log:
-        failed = prove_crates(work, crates, listed, log)
-    made = work / "crates" / "mscs" / "out" / "mscs"
+        made, failed = prove_crates(Lanes(work, crates, processors()), crates, listed, log)
     if failed or not made.is_file():
         for line in failed:
             tell(line)

@@ -23,7 +23,7 @@ def in_usage():
 
 def in_program():
     """The first word of each form that the program takes."""
-    return re.findall(r'^words_of .*?= codes "(\w+)"', read("crates/command_words/specs/Forms.antt"), re.M)
+    return list(dict.fromkeys(re.findall(r'^words_of .*?= codes "(\w+)"', read("crates/command_words/specs/Forms.antt"), re.M)))
 
 
 def in_manual():

@@ -46,13 +46,25 @@ def run_closed(folder, words, closed):
         for descriptor in closed:
             os.close(descriptor)
 
+    server = listening(words[1]) if words[0] == "ask" else None
     null = subprocess.DEVNULL
     program = subprocess.Popen([client.PROGRAM, *words], cwd=folder, stdin=null, stdout=null, stderr=null, preexec_fn=close)
     if words[0] == "serve":
         link = connected(int(words[1].split(":")[1]))
         link.call(client.GET_ROOT_KEY, client.get_root_key())
         link.close()
-    return program.wait(timeout=60)
+    status = program.wait(timeout=60)
+    if server:
+        server.kill()
+        server.wait()
+    return status
+
+
+def listening(address):
+    """A server that listens there, whose first connection is over."""
+    server = subprocess.Popen([client.PROGRAM, "serve", address, "2"])
+    connected(int(address.split(":")[1])).close()
+    return server
 
 
 def log_of(folder):
@@ -63,7 +75,7 @@ def log_of(folder):
 
 
 def closed_streams():
-    commands = [["session"], ["serve", f"127.0.0.1:{PORT}", "1"], ["format", "4096"], ["showlog"], ["export"]]
+    commands = [["session"], ["serve", f"127.0.0.1:{PORT}", "1"], ["format", "4096"], ["showlog"], ["export"], ["ask", f"127.0.0.1:{PORT}"]]
     for words in commands:
         for count in (1, 2, 3):
             for closed in itertools.combinations((0, 1, 2), count):
