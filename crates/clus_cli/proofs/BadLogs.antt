@@ -43,6 +43,7 @@ refused_at v before statuses.DiskFault w now place told sized refused bad = tt
 refused_at v before (statuses.Fenced held) w now place told sized refused bad = tt
 refused_at v before statuses.NoMemory w now place told sized refused bad = tt
 refused_at v before statuses.Done w now place told sized refused bad = absurd refused.why
+refused_at v before (statuses.BadScript line fault) w now at told sized refused bad = absurd refused.why
 refused_at v before statuses.WriteFault w now place told sized refused bad = absurd refused.why
 refused_at v before statuses.Usage w now place told sized refused bad = absurd refused.why
 refused_at v before statuses.ReadFault w now place told sized refused bad = absurd refused.why

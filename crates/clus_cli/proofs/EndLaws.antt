@@ -1,7 +1,7 @@
 -- The words ask for one command, which ends as it may.
 use Rattle.std.proofs.Common.{◌≡◌, ℕ, ◌<◌, List, Option, Some, refl, sym, inl, inr, subst}
 use Rattle.causes.specs.Counts.{Rose}
-use Rattle.command_words.specs.Commands.{Asked, Asks, ask, export, format, serve, session, showlog}
+use Rattle.command_words.specs.Commands.{Asked, Asks, ask, drill, export, format, replay, serve, session, showlog}
 use Rattle.clus_cli.specs.declared.status.Status.{Status}
 use Rattle.clus_cli.specs.declared.status.Status.TheVariants as statuses
 use Rattle.disk_core.specs.Views.{DiskView}
@@ -9,6 +9,7 @@ use Rattle.clus_cli.specs.Asking.{MayAsk}
 use Rattle.clus_cli.specs.Commands.{AsksNode, AsksOfDisk, FormatEnds}
 use Rattle.clus_cli.specs.Ends.{Ends, MayEnd, MayPrint, Outside, calls}
 use Rattle.clus_cli.specs.Export.{ExportRuns}
+use Rattle.clus_cli.specs.Scripts.{MayDrill, MayReplay}
 use Rattle.clus_cli.specs.Showlog.{Prints, Refuses, ShowRuns}
 
 -- ---- one command
@@ -17,6 +18,7 @@ pub format_may : (most : ℕ) (status : Status) (v w : Outside) → FormatEnds v
 format_may most statuses.Done v w ends = tt
 format_may most statuses.DiskFault v w ends = ends.1
 format_may most (statuses.Fenced held) v w ends = ends
+format_may most (statuses.BadScript line fault) v w ends = absurd ends
 format_may most statuses.ReadFault v w ends = absurd ends
 format_may most statuses.WriteFault v w ends = absurd ends
 format_may most statuses.NoMemory v w ends = tt
@@ -33,6 +35,7 @@ refused_may statuses.DiskFault v w why = why.1
 refused_may (statuses.Fenced held) v w why = why
 refused_may statuses.NoMemory v w why = tt
 refused_may statuses.Done v w why = tt
+refused_may (statuses.BadScript line fault) v w why = absurd why
 refused_may statuses.ReadFault v w why = absurd why
 refused_may statuses.WriteFault v w why = absurd why
 refused_may statuses.Usage v w why = absurd why
@@ -46,6 +49,7 @@ printed_may : (before : Option (List ℕ)) (text : List ℕ) (status : Status) (
 printed_may before text statuses.Done now v w prints write = tt
 printed_may before text statuses.WriteFault now v w prints write = write refl
 printed_may before text statuses.NoMemory now v w prints write = tt
+printed_may before text (statuses.BadScript line fault) now v w prints write = absurd prints
 printed_may before text statuses.ReadFault now v w prints write = absurd prints
 printed_may before text statuses.DiskFault now v w prints write = absurd prints
 printed_may before text statuses.Usage now v w prints write = absurd prints
@@ -75,6 +79,8 @@ export_may before now status v w runs write =
 memory_may : (asked : Asked) (v w : Outside) → MayEnd asked statuses.NoMemory v w
 memory_may (session stamp) v w = tt
 memory_may (serve address count stamp) v w = tt
+memory_may replay v w = tt
+memory_may (drill number events) v w = tt
 memory_may (format most) v w = tt
 memory_may showlog v w = tt
 memory_may export v w = tt
@@ -109,6 +115,8 @@ serve_ends words count stamp status v w only may (session given) asks = absurd (
 serve_ends words count stamp status v w only may (serve address number given) asks =
     let is = only (serve address number given) asks in
     subst (λ (n : ℕ). MayEnd (serve address n given) status v w) (sym is.0) (subst (λ (s : Option ℕ). MayEnd (serve address count s) status v w) (sym is.1) (may address))
+serve_ends words count stamp status v w only may replay asks = absurd (only replay asks)
+serve_ends words count stamp status v w only may (drill number events) asks = absurd (only (drill number events) asks)
 serve_ends words count stamp status v w only may (format most) asks = absurd (only (format most) asks)
 serve_ends words count stamp status v w only may showlog asks = absurd (only showlog asks)
 serve_ends words count stamp status v w only may export asks = absurd (only export asks)
@@ -119,6 +127,8 @@ pub ask_ends : (words : List (List ℕ)) (status : Status) (v w : Outside) → (
 unfolding Ends
 ask_ends words status v w only may (session stamp) asks = absurd (only (session stamp) asks)
 ask_ends words status v w only may (serve address count stamp) asks = absurd (only (serve address count stamp) asks)
+ask_ends words status v w only may replay asks = absurd (only replay asks)
+ask_ends words status v w only may (drill number events) asks = absurd (only (drill number events) asks)
 ask_ends words status v w only may (format most) asks = absurd (only (format most) asks)
 ask_ends words status v w only may showlog asks = absurd (only showlog asks)
 ask_ends words status v w only may export asks = absurd (only export asks)
@@ -126,6 +136,13 @@ ask_ends words status v w only may (ask address) asks = may
 
 pub ask_bad : {A : Type 0} (status : Status) (v w : Outside) (place : ℕ) → MayAsk status (calls v) (calls w) → status ≡ statuses.BadLog place → A
 ask_bad status v w place may is = absurd (subst (λ (s : Status). MayAsk s (calls v) (calls w)) is may)
+
+-- A script that is played finds no log at fault.
+pub replay_bad : {A : Type 0} (status : Status) (reads read_then prints printed_then place : ℕ) → MayReplay status reads read_then prints printed_then → status ≡ statuses.BadLog place → A
+replay_bad status reads read_then prints printed_then place may is = absurd (subst (λ (s : Status). MayReplay s reads read_then prints printed_then) is may)
+
+pub drill_bad : {A : Type 0} (status : Status) (prints printed_then place : ℕ) → MayDrill status prints printed_then → status ≡ statuses.BadLog place → A
+drill_bad status prints printed_then place may is = absurd (subst (λ (s : Status). MayDrill s prints printed_then) is may)
 
 pub memory_ends : (words : List (List ℕ)) (v w : Outside) → Ends words statuses.NoMemory v w
 unfolding Ends

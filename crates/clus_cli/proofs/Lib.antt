@@ -5,5 +5,6 @@ pub mod ExportLaws
 pub mod FormatLaws
 pub mod OpenLaws
 pub mod RunLaws
+pub mod ScriptLaws
 pub mod ShowLaws
 pub mod WritingLaws

@@ -26,6 +26,7 @@ printed_behind a b c x y (Ok ok) wrote rest = Wrote-append a b c x y wrote rest
 printed_behind a b c x y (Err statuses.WriteFault) wrote rest = some_then a b c x y wrote rest
 printed_behind a b c x y (Err statuses.NoMemory) wrote rest = some_then a b c x y wrote rest
 printed_behind a b c x y (Err statuses.Done) wrote rest = absurd rest
+printed_behind a b c x y (Err (statuses.BadScript line fault)) wrote rest = absurd rest
 printed_behind a b c x y (Err statuses.Usage) wrote rest = absurd rest
 printed_behind a b c x y (Err statuses.ReadFault) wrote rest = absurd rest
 printed_behind a b c x y (Err statuses.DiskFault) wrote rest = absurd rest
@@ -40,6 +41,7 @@ pub printed_err : (a b : Option (List ℕ)) (text : List ℕ) (status : Status) 
 printed_err a b text statuses.WriteFault printed = printed
 printed_err a b text statuses.NoMemory printed = printed
 printed_err a b text statuses.Done printed = absurd printed
+printed_err a b text (statuses.BadScript line fault) printed = printed
 printed_err a b text statuses.Usage printed = printed
 printed_err a b text statuses.ReadFault printed = printed
 printed_err a b text statuses.DiskFault printed = printed

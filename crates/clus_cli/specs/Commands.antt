@@ -7,7 +7,7 @@ use Rattle.disk_core.specs.Images.{EachImage}
 use Rattle.disk_core.specs.Views.{DiskView, Passes}
 use Rattle.quorum_log.specs.Image.{Holds}
 use Rattle.quorum_log.specs.Formats.{empty_log, IsInFormat}
-use Rattle.command_words.specs.Commands.{Asks}
+use Rattle.command_words.specs.Commands.{Asked, Asks}
 use Rattle.command_words.specs.Commands as commands
 use Rattle.clus_cli.specs.declared.status.Status.{Status}
 use Rattle.clus_cli.specs.declared.status.Status.TheVariants as statuses
@@ -33,6 +33,15 @@ AsksSomeServe words = (count : ℕ) × (address : List ℕ) × (stamp : Option �
 abbrev pub AsksNode : List (List ℕ) → Type 0
 AsksNode words = AsksSomeSession words ⊎ AsksSomeServe words
 
+abbrev pub AsksReplay : List (List ℕ) → Type 0
+AsksReplay words = Asks words commands.replay
+
+abbrev pub AsksDrill : List (List ℕ) → ℕ → ℕ → Type 0
+AsksDrill words number events = Asks words (commands.drill number events)
+
+abbrev pub AsksSomeDrill : List (List ℕ) → Type 0
+AsksSomeDrill words = (number : ℕ) × (events : ℕ) × AsksDrill words number events
+
 abbrev pub AsksFormat : List (List ℕ) → ℕ → Type 0
 AsksFormat words cap = Asks words (commands.format cap)
 
@@ -55,10 +64,21 @@ AsksSomePeer words = (address : List ℕ) × AsksPeer words address
 abbrev pub AsksOfDisk : List (List ℕ) → Type 0
 AsksOfDisk words = AsksNode words ⊎ (AsksSomeFormat words ⊎ (AsksShowlog words ⊎ AsksExport words))
 
+-- The words ask for a command that reads the input.
+abbrev pub AsksOfInput : List (List ℕ) → Type 0
+AsksOfInput words = AsksSomeSession words ⊎ (AsksReplay words ⊎ AsksSomePeer words)
+
+-- They ask for one that prints.
+abbrev pub AsksOfOutput : List (List ℕ) → Type 0
+AsksOfOutput words = AsksOfInput words ⊎ (AsksSomeDrill words ⊎ (AsksShowlog words ⊎ AsksExport words))
+
+-- They ask for one over connections.
+abbrev pub AsksOfDoor : List (List ℕ) → Type 0
+AsksOfDoor words = AsksSomeServe words ⊎ AsksSomePeer words
+
 -- The words are no command.
 abbrev pub AsksNothing : List (List ℕ) → Type 0
-AsksNothing words =
-    ¬ AsksSomeSession words × ¬ AsksSomeServe words × ¬ AsksSomeFormat words × ¬ AsksShowlog words × ¬ AsksExport words × ¬ AsksSomePeer words
+AsksNothing words = (asked : Asked) → ¬ Asks words asked
 
 -- Memory ran out before the command was known, and this is as it was.
 abbrev pub IsUnbegun : {A : Type 0} → Status → A → A → Type 0

@@ -4,11 +4,12 @@ use Rattle.causes.specs.Counts.{Rose}
 use Rattle.disk_core.specs.Views.{DiskView}
 use Rattle.edge_io.specs.Visits.{Faults}
 use Rattle.asking.specs.Asking.{Counts, counts}
-use Rattle.command_words.specs.Commands.{Asked, Asks, ask, export, format, serve, session, showlog}
+use Rattle.command_words.specs.Commands.{Asked, Asks, ask, drill, export, format, replay, serve, session, showlog}
 use Rattle.clus_cli.specs.declared.status.Status.{Status}
 use Rattle.clus_cli.specs.declared.status.Status.TheVariants as statuses
 use Rattle.single_runs.specs.BadLogs.{IsBadLog as IsFaultyLog}
 use Rattle.clus_cli.specs.Asking.{MayAsk}
+use Rattle.clus_cli.specs.Scripts.{MayDrill, MayReplay}
 use Rattle.clus_cli.specs.Showlog.{IsBadLog}
 
 -- How many calls of each kind failed so far, and what the disk shows.
@@ -74,6 +75,8 @@ MayEnd (session stamp) statuses.WriteFault v w = FailedWrite v w
 MayEnd (session stamp) status v w = MayRun status v w
 MayEnd (serve address count stamp) statuses.ReadFault v w = FailedAccept v w
 MayEnd (serve address count stamp) status v w = MayRun status v w
+MayEnd replay status v w = MayReplay status v.reads w.reads v.writes w.writes
+MayEnd (drill number events) status v w = MayDrill status v.writes w.writes
 MayEnd (format cap) statuses.Done v w = Unit {0}
 MayEnd (format cap) statuses.DiskFault v w = FailedDisk v w
 MayEnd (format cap) statuses.NoMemory v w = Unit {0}

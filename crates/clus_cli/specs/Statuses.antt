@@ -2,11 +2,15 @@
 use Rattle.std.specs.Prelude.{ℕ, List, [], ◌∷◌, ◌++◌, codes}
 use Rattle.std.specs.Fmt.{decimal}
 use Rattle.std.specs.List.{concat}
+use Rattle.script_player.specs.declared.script_fault.ScriptFault.{ScriptFault}
+use Rattle.script_player.specs.declared.script_fault.ScriptFault.TheVariants.{Column, Event}
+use Rattle.script_text.specs.Refusals.{bad_column_text, bad_event_text}
 use Rattle.clus_cli.specs.declared.status.Status.{Status}
-use Rattle.clus_cli.specs.declared.status.Status.TheVariants.{Done, Usage, ReadFault, WriteFault, DiskFault, NoMemory, BadLog, Fenced, TooLong, BadCommand, BadReply, NoPeer}
+use Rattle.clus_cli.specs.declared.status.Status.TheVariants.{Done, BadScript, Usage, ReadFault, WriteFault, DiskFault, NoMemory, BadLog, Fenced, TooLong, BadCommand, BadReply, NoPeer}
 
 abbrev pub number_of : Status → ℕ
 number_of Done = 0
+number_of (BadScript line fault) = 1
 number_of Usage = 2
 number_of ReadFault = 3
 number_of WriteFault = 4
@@ -19,12 +23,17 @@ number_of (BadCommand line column) = 12
 number_of (BadReply place) = 13
 number_of NoPeer = 14
 
+abbrev pub bad_script_text : ℕ → ScriptFault → List ℕ
+bad_script_text line (Column column) = bad_column_text line column
+bad_script_text line (Event cause) = bad_event_text line cause
+
 unfoldable pub bad_command_text : ℕ → ℕ → List ℕ
 bad_command_text line column = concat (codes "bad command: line " ∷ decimal line ∷ codes ", column " ∷ decimal column ∷ [])
 
 abbrev pub text_of : Status → List ℕ
 text_of Done = []
-text_of Usage = codes "usage: mscs session [STAMP], serve ADDR COUNT [STAMP], format CAP, showlog"
+text_of (BadScript line fault) = bad_script_text line fault
+text_of Usage = codes "usage: mscs session [STAMP], serve ADDR COUNT [STAMP], replay, drill NUMBER EVENTS, format CAP, showlog"
 text_of ReadFault = codes "read fault"
 text_of WriteFault = codes "write fault"
 text_of DiskFault = codes "disk fault"

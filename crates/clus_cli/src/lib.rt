@@ -5,9 +5,11 @@ mod exporting;
 mod opening;
 mod peer;
 mod running;
+mod scripts;
 mod serving;
 mod showing;
 mod status;
 
 pub use running::run;
+pub use script_player::ScriptFault;
 pub use status::Status;

@@ -1,6 +1,8 @@
 ghost use Rattle.std.specs.Prelude.{◌≡◌, IfOk, string_bytes};
-ghost use Rattle.clus_cli.specs.Statuses.{bad_command_text, number_of, text_of};
+ghost use Rattle.clus_cli.specs.Statuses.{bad_command_text, bad_script_text, number_of, text_of};
 
+use script_player::ScriptFault;
+use script_text::{bad_column, bad_event};
 use std::alloc::{AllocError, Global};
 
 /// How a run of the program ended.
@@ -9,6 +11,8 @@ pub enum Status {
     /// The input was read to its end, or to what ends it, and all was written; or each connection
     /// was served.
     Done,
+    /// That line of the script is bad; those before it were played.
+    BadScript { line: u32, fault: ScriptFault },
     /// The words are no command.
     Usage,
     /// The input could not be read, or no further connection could be accepted.
@@ -40,6 +44,7 @@ impl Status {
     {
         match self {
             Status::Done => 0,
+            Status::BadScript { .. } => 1,
             Status::Usage => 2,
             Status::ReadFault => 3,
             Status::WriteFault => 4,
@@ -60,9 +65,10 @@ impl Status {
     {
         match self {
             Status::Done => String::from_str(alloc, ""),
+            Status::BadScript { line, fault } => bad_script(alloc, *line, fault),
             Status::Usage => String::from_str(
                 alloc,
-                "usage: mscs session [STAMP], serve ADDR COUNT [STAMP], format CAP, showlog",
+                "usage: mscs session [STAMP], serve ADDR COUNT [STAMP], replay, drill NUMBER EVENTS, format CAP, showlog",
             ),
             Status::ReadFault => String::from_str(alloc, "read fault"),
             Status::WriteFault => String::from_str(alloc, "write fault"),
@@ -75,6 +81,15 @@ impl Status {
             Status::BadReply { place } => format!(in alloc; "bad reply: place {place}"),
             Status::NoPeer => String::from_str(alloc, "no peer"),
         }
+    }
+}
+
+fn bad_script(alloc: Global, line: u32, fault: &ScriptFault) -> Result<String, AllocError>
+    ensures { IfOk result (λ text. string_bytes text ≡ bad_script_text line fault.now) }
+{
+    match fault {
+        ScriptFault::Column(column) => bad_column(alloc, line, *column),
+        ScriptFault::Event(cause) => bad_event(alloc, line, cause),
     }
 }
 

@@ -21,7 +21,7 @@
 //!
 //! A `session` or a `serve` has a new disk, unless one of the lines on the disk stands before it. BYTES are words: hex, `HEX*COUNT` for the same COUNT times, or `$NAME`. In the words of `run` an underscore stands
 //! for a space, and `""` for the empty word. A run prints its status with its text; what was written, in hex behind
-//! `wrote` or, where the command is `showlog`, `export` or `ask`, as it is; and what each ended connection was sent, in hex
+//! `wrote` or, where the command writes text (`showlog`, `export`, `ask`, `replay`, `drill`), as it is; and what each ended connection was sent, in hex
 //! behind `sent`. Each fragment has a line, behind `then` where it isn't the first; what is no whole fragment has one
 //! too. Nothing is cut. Any other line ends the program, with its number.
 #![tactic(auto)]

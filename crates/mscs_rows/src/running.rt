@@ -78,7 +78,7 @@ fn tell(
 
 /// Whether the command writes text.
 fn is_text(word: &str) -> bool {
-    word == "showlog" || word == "export" || word == "ask"
+    matches!(word, "showlog" | "export" | "ask" | "replay" | "drill")
 }
 
 fn status_line(alloc: Global, status: &Status) -> Result<String, RowFault> {

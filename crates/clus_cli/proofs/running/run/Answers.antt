@@ -1,11 +1,12 @@
 use Rattle.std.proofs.Common.{◌≡◌, ℕ, [], Option, inl, inr, refl, sym, subst}
 use Rattle.asking.specs.Asking.{edges}
-use Rattle.command_words.specs.Commands.{ask, export, format, serve, session, showlog}
+use Rattle.command_words.specs.Commands.{ask, drill, export, format, replay, serve, session, showlog}
 use Rattle.clus_cli.specs.Commands.{FormatRuns, stamp_of}
 use Rattle.clus_cli.specs.Ends.{Outside, outside}
 use Rattle.clus_cli.specs.Runs.{DoorRuns, SessionRuns}
 use Rattle.clus_cli.proofs.AskLaws.{nothing_ran}
-use Rattle.clus_cli.proofs.EndLaws.{ask_bad, ask_ends, asks_peer, command_ends, export_may, format_bad, format_may, memory_ends, no_command_ends, none_of_disk, not_node, serve_ends, serves, showlog_may}
+use Rattle.clus_cli.proofs.ScriptLaws.{drilled_as_asked, nothing_drilled, nothing_replayed}
+use Rattle.clus_cli.proofs.EndLaws.{ask_bad, ask_ends, asks_peer, command_ends, drill_bad, export_may, format_bad, format_may, memory_ends, no_command_ends, none_of_disk, not_node, replay_bad, serve_ends, serves, showlog_may}
 use Rattle.clus_cli.proofs.EndLaws.{serve_accept, serve_disk, serve_fenced, serve_known, serve_write, session_disk, session_fenced, session_known, session_read, session_write}
 use Rattle.clus_cli.proofs.running.run.Goals as goal
 
@@ -43,7 +44,7 @@ pub returns-in-Session-clause-bad_log : goal.returns-in-Session-clause-bad_log
 returns-in-Session-clause-bad_log g c = λ place asks told bad. c.serve_stream.ensures.bad_log place told bad
 
 pub returns-in-Session-clause-nothing : goal.returns-in-Session-clause-nothing
-returns-in-Session-clause-nothing g c = λ none. absurd (none.0 (c.in-Session.stamp, rw (c.in-Ok-Some.field-0-is, c.in-Session.is) at c.in-Ok-Some.ensures.found))
+returns-in-Session-clause-nothing g c = λ none. absurd (none _ c.in-Ok-Some.ensures.found)
 
 pub returns-in-Session-clause-serve : goal.returns-in-Session-clause-serve
 returns-in-Session-clause-serve g c = λ address count stamp asks. absurd (cc (rw (c.in-Ok-Some.field-0-is, c.in-Session.is) at (c.in-Ok-Some.ensures.only (serve address count stamp) asks)))
@@ -53,6 +54,12 @@ returns-in-Session-clause-accept g c = λ some is. absurd (cc (rw (c.in-Ok-Some.
 
 pub returns-in-Session-clause-ask : goal.returns-in-Session-clause-ask
 returns-in-Session-clause-ask g c = λ some. absurd (cc (rw (c.in-Ok-Some.field-0-is, c.in-Session.is) at (c.in-Ok-Some.ensures.only (ask some.0) some.1)))
+
+pub returns-in-Session-clause-replay : goal.returns-in-Session-clause-replay
+returns-in-Session-clause-replay g c = λ asks. absurd (cc (rw (c.in-Ok-Some.field-0-is, c.in-Session.is) at (c.in-Ok-Some.ensures.only replay asks)))
+
+pub returns-in-Session-clause-drill : goal.returns-in-Session-clause-drill
+returns-in-Session-clause-drill g c = λ number events asks. absurd (cc (rw (c.in-Ok-Some.field-0-is, c.in-Session.is) at (c.in-Ok-Some.ensures.only (drill number events) asks)))
 
 -- ---- `serve`
 
@@ -94,8 +101,7 @@ pub returns-in-Serve-clause-bad_log : goal.returns-in-Serve-clause-bad_log
 returns-in-Serve-clause-bad_log g c = λ place asks told bad. c.serve_door.ensures.bad_log place told bad
 
 pub returns-in-Serve-clause-nothing : goal.returns-in-Serve-clause-nothing
-returns-in-Serve-clause-nothing g c = λ none.
-    absurd (none.1 (c.in-Serve.count, _, c.in-Serve.stamp, rw (c.in-Ok-Some.field-0-is, c.in-Serve.is) at c.in-Ok-Some.ensures.found))
+returns-in-Serve-clause-nothing g c = λ none. absurd (none _ c.in-Ok-Some.ensures.found)
 
 pub returns-in-Serve-clause-session : goal.returns-in-Serve-clause-session
 returns-in-Serve-clause-session g c = λ stamp asks. absurd (cc (rw (c.in-Ok-Some.field-0-is, c.in-Serve.is) at (c.in-Ok-Some.ensures.only (session stamp) asks)))
@@ -105,6 +111,42 @@ returns-in-Serve-clause-read g c = λ some is. absurd (cc (rw (c.in-Ok-Some.fiel
 
 pub returns-in-Serve-clause-ask : goal.returns-in-Serve-clause-ask
 returns-in-Serve-clause-ask g c = λ some. absurd (cc (rw (c.in-Ok-Some.field-0-is, c.in-Serve.is) at (c.in-Ok-Some.ensures.only (ask some.0) some.1)))
+
+pub returns-in-Serve-clause-replay : goal.returns-in-Serve-clause-replay
+returns-in-Serve-clause-replay g c = λ asks. absurd (cc (rw (c.in-Ok-Some.field-0-is, c.in-Serve.is) at (c.in-Ok-Some.ensures.only replay asks)))
+
+pub returns-in-Serve-clause-drill : goal.returns-in-Serve-clause-drill
+returns-in-Serve-clause-drill g c = λ number events asks. absurd (cc (rw (c.in-Ok-Some.field-0-is, c.in-Serve.is) at (c.in-Ok-Some.ensures.only (drill number events) asks)))
+
+-- ---- `replay` and `drill`
+
+pub returns-in-Replay-clause-ends : goal.returns-in-Replay-clause-ends
+returns-in-Replay-clause-ends g c =
+    command_ends _ replay c.replay_script.result _ _ (λ other asks. rw (c.in-Ok-Some.field-0-is, c.in-Replay.is) at (c.in-Ok-Some.ensures.only other asks)) c.replay_script.ensures.may
+
+pub returns-in-Replay-clause-bad_log : goal.returns-in-Replay-clause-bad_log
+returns-in-Replay-clause-bad_log g c = λ place asks.
+    not_node _ replay (λ other asks. rw (c.in-Ok-Some.field-0-is, c.in-Replay.is) at (c.in-Ok-Some.ensures.only other asks)) tt asks
+
+pub returns-in-Replay-clause-unchanged : goal.returns-in-Replay-clause-unchanged
+returns-in-Replay-clause-unchanged g c = λ place is told. replay_bad c.replay_script.result _ _ _ _ place c.replay_script.ensures.may is
+
+pub returns-in-Drill-clause-ends : goal.returns-in-Drill-clause-ends
+returns-in-Drill-clause-ends g c =
+    command_ends _ (drill c.in-Drill.number c.in-Drill.events) c.drill_script.result _ _ (λ other asks. rw (c.in-Ok-Some.field-0-is, c.in-Drill.is) at (c.in-Ok-Some.ensures.only other asks))
+    c.drill_script.ensures.may
+
+pub returns-in-Drill-clause-drill : goal.returns-in-Drill-clause-drill
+returns-in-Drill-clause-drill g c = λ number events asks.
+    drilled_as_asked c.in-Drill.number c.in-Drill.events number events c.drill_script.result (g.K.Sink.written c.args.output.now) (g.K.Sink.written c.drill_script.new.output)
+    (rw (c.in-Ok-Some.field-0-is, c.in-Drill.is) at (c.in-Ok-Some.ensures.only (drill number events) asks)) c.drill_script.ensures.runs
+
+pub returns-in-Drill-clause-bad_log : goal.returns-in-Drill-clause-bad_log
+returns-in-Drill-clause-bad_log g c = λ place asks.
+    not_node _ (drill c.in-Drill.number c.in-Drill.events) (λ other asks. rw (c.in-Ok-Some.field-0-is, c.in-Drill.is) at (c.in-Ok-Some.ensures.only other asks)) tt asks
+
+pub returns-in-Drill-clause-unchanged : goal.returns-in-Drill-clause-unchanged
+returns-in-Drill-clause-unchanged g c = λ place is told. drill_bad c.drill_script.result _ _ place c.drill_script.ensures.may is
 
 -- ---- `ask`
 
@@ -146,6 +188,12 @@ returns-in-Ok-None-clause-session g c = λ stamp asks. absurd (cc (rw c.in-Ok-No
 pub returns-in-Ok-None-clause-serve : goal.returns-in-Ok-None-clause-serve
 returns-in-Ok-None-clause-serve g c = λ address count stamp asks. absurd (cc (rw c.in-Ok-None.field-0-is at (c.in-Ok-None.ensures.only (serve address count stamp) asks)))
 
+pub returns-in-Ok-None-clause-replay : goal.returns-in-Ok-None-clause-replay
+returns-in-Ok-None-clause-replay g c = λ asks. absurd (cc (rw c.in-Ok-None.field-0-is at (c.in-Ok-None.ensures.only replay asks)))
+
+pub returns-in-Ok-None-clause-drill : goal.returns-in-Ok-None-clause-drill
+returns-in-Ok-None-clause-drill g c = λ number events asks. absurd (cc (rw c.in-Ok-None.field-0-is at (c.in-Ok-None.ensures.only (drill number events) asks)))
+
 pub returns-in-Ok-None-clause-format : goal.returns-in-Ok-None-clause-format
 returns-in-Ok-None-clause-format g c = λ cap asks. absurd (cc (rw c.in-Ok-None.field-0-is at (c.in-Ok-None.ensures.only (format cap) asks)))
 
@@ -159,14 +207,7 @@ pub returns-in-Ok-None-clause-ask : goal.returns-in-Ok-None-clause-ask
 returns-in-Ok-None-clause-ask g c = λ some. absurd (cc (rw c.in-Ok-None.field-0-is at (c.in-Ok-None.ensures.only (ask some.0) some.1)))
 
 pub returns-in-Ok-None-clause-usage : goal.returns-in-Ok-None-clause-usage
-returns-in-Ok-None-clause-usage g c = λ is. (
-  λ some. absurd (cc (rw c.in-Ok-None.field-0-is at (c.in-Ok-None.ensures.only (session some.0) some.1))),
-  λ some. absurd (cc (rw c.in-Ok-None.field-0-is at (c.in-Ok-None.ensures.only (serve some.1 some.0 some.2) some.3))),
-  λ some. absurd (cc (rw c.in-Ok-None.field-0-is at (c.in-Ok-None.ensures.only (format some.0) some.1))),
-  λ asks. absurd (cc (rw c.in-Ok-None.field-0-is at (c.in-Ok-None.ensures.only showlog asks))),
-  λ asks. absurd (cc (rw c.in-Ok-None.field-0-is at (c.in-Ok-None.ensures.only export asks))),
-  λ some. absurd (cc (rw c.in-Ok-None.field-0-is at (c.in-Ok-None.ensures.only (ask some.0) some.1))),
-)
+returns-in-Ok-None-clause-usage g c = λ is asked asks. absurd (cc (rw c.in-Ok-None.field-0-is at (c.in-Ok-None.ensures.only asked asks)))
 
 pub returns-in-Ok-None-clause-bad_log : goal.returns-in-Ok-None-clause-bad_log
 returns-in-Ok-None-clause-bad_log g c = λ place asks. none_of_disk _ (λ asked asks. absurd (cc (rw c.in-Ok-None.field-0-is at (c.in-Ok-None.ensures.only asked asks)))) (inl asks)
@@ -176,6 +217,12 @@ returns-in-Ok-None-clause-fences g c = λ asks held. none_of_disk _ (λ asked as
 
 pub returns-in-Err-clause-ask : goal.returns-in-Err-clause-ask
 returns-in-Err-clause-ask g c = λ asks. nothing_ran (g.S.Source.left c.args.input.now) (edges (g.K.Sink.written c.args.output.now) (g.G.Door.visits c.args.door.now))
+
+pub returns-in-Err-clause-replay : goal.returns-in-Err-clause-replay
+returns-in-Err-clause-replay g c = λ asks. nothing_replayed _ _
+
+pub returns-in-Err-clause-drill : goal.returns-in-Err-clause-drill
+returns-in-Err-clause-drill g c = λ number events asks. nothing_drilled number events _
 
 -- ---- the one command that the words ask for ends as it may
 
