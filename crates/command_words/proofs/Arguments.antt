@@ -1,4 +1,4 @@
--- What clap makes of the words behind a name whose subcommand takes none, one or three of them.
+-- What clap makes of the words behind a name whose subcommand takes none, one, two or three of them.
 use Rattle.std.proofs.Common.{◌≡◌, ◌&&◌, ◌||◌, ℕ, Bool, cond, true, false, List, [], ◌∷◌, Some, None, refl}
 use Rattle.std.specs.Str.{bytes_eq}
 use Rattle.std.proofs.Math.Bool.{and-false, or-false}
@@ -90,6 +90,55 @@ one_more name a w v r1 rest p0 p1 =
     let s = leaf name (rule a r1 ∷ []) in
     let h1 = after s 1 w nothing_held in
     rw (plain_turn s nothing_held 1 w (v ∷ rest) p0, plain_turn s h1 2 v rest p1) refl
+
+-- ---- two
+
+pub two_0 : (name a b : Text) (r1 r2 : Bool) → bytes_eq a b ≡ false
+    → level_fault (leaf name (rule a r1 ∷ rule b r2 ∷ [])) [] nothing_held [] false [] ≡ missing (r1 || r2)
+unfolding defaults_fault
+two_0 name a b r1 r2 ab =
+    let s = leaf name (rule a r1 ∷ rule b r2 ∷ []) in
+    rw (walk_end s (at nothing_held 1)) (simp (and_true, or-false) refl)
+
+pub two_1 : (name a b w : Text) (r1 r2 : Bool) → bytes_eq a b ≡ false → IsPlain w
+    → level_fault (leaf name (rule a r1 ∷ rule b r2 ∷ [])) [] nothing_held (w ∷ []) false [] ≡ missing r2
+unfolding defaults_fault
+two_1 name a b w r1 r2 ab p0 =
+    let s = leaf name (rule a r1 ∷ rule b r2 ∷ []) in
+    let h1 = after s 1 w nothing_held in
+    rw (plain_turn s nothing_held 1 w [] p0, walk_end s (at h1 2), plain_walked s.rules nothing_held 1 w p0)
+    (simp (same a, ab, and_true, and-false, or-false) refl)
+
+pub two_2 : (name a b w v : Text) (r1 r2 : Bool) → bytes_eq a b ≡ false → IsPlain w → IsPlain v
+    → level_fault (leaf name (rule a r1 ∷ rule b r2 ∷ [])) [] nothing_held (w ∷ v ∷ []) false [] ≡ []
+unfolding defaults_fault
+two_2 name a b w v r1 r2 ab p0 p1 =
+    let s = leaf name (rule a r1 ∷ rule b r2 ∷ []) in
+    let h1 = after s 1 w nothing_held in
+    let h2 = after s 2 v h1 in
+    rw (
+      plain_turn s nothing_held 1 w (v ∷ []) p0,
+      plain_turn s h1 2 v [] p1,
+      walk_end s (at h2 3),
+      plain_walked s.rules nothing_held 1 w p0,
+      plain_walked s.rules h1 2 v p1,
+    )
+    (simp (same a, same b, ab, and-false, or-false) refl)
+
+pub two_2_rows : (name a b w v : Text) (r1 r2 : Bool) → bytes_eq a b ≡ false → IsPlain w → IsPlain v
+    → rows_at (leaf name (rule a r1 ∷ rule b r2 ∷ [])) (w ∷ v ∷ []) ≡ (name, row a w ∷ row b v ∷ [])
+two_2_rows name a b w v r1 r2 ab p0 p1 =
+    let s = leaf name (rule a r1 ∷ rule b r2 ∷ []) in
+    let h1 = after s 1 w nothing_held in
+    rw (plain_walked s.rules nothing_held 1 w p0, plain_walked s.rules h1 2 v p1) (simp (same a, same b, ab) refl)
+
+pub two_more : (name a b w v u : Text) (r1 r2 : Bool) (rest : List Text) → bytes_eq a b ≡ false → IsPlain w → IsPlain v → IsPlain u
+    → level_fault (leaf name (rule a r1 ∷ rule b r2 ∷ [])) [] nothing_held (w ∷ v ∷ u ∷ rest) false [] ≡ too_many
+two_more name a b w v u r1 r2 rest ab p0 p1 p2 =
+    let s = leaf name (rule a r1 ∷ rule b r2 ∷ []) in
+    let h1 = after s 1 w nothing_held in
+    let h2 = after s 2 v h1 in
+    rw (plain_turn s nothing_held 1 w (v ∷ u ∷ rest) p0, plain_turn s h1 2 v (u ∷ rest) p1, plain_turn s h2 3 u rest p2) (simp (same a, ab) refl)
 
 -- ---- three
 

@@ -4,7 +4,7 @@ use Rattle.std.proofs.Common.{refl, sym, ap, ◌∙◌, subst, arith}
 use Rattle.std.specs.Fmt.{decimal}
 use Rattle.std.specs.List.{All}
 use Rattle.std.proofs.lemmas.Fmt.{first_decimal}
-use Rattle.command_words.specs.Commands.{Asked, Asks, Says, ask, export, format, serve, session, showlog}
+use Rattle.command_words.specs.Commands.{Asked, Asks, Says, ask, drill, export, format, replay, serve, session, showlog}
 use Rattle.command_words.specs.Forms.{HasForm, IsPlain, Texts, words_of}
 use Rattle.command_words.specs.Forms as texts
 use Rattle.command_words.proofs.FormLaws.{PlainEach}
@@ -13,6 +13,8 @@ use Rattle.command_words.proofs.Numbers.{zero_word}
 abbrev pub texts_for : Asked → Texts
 texts_for (session stamp) = texts.session (option_map decimal stamp)
 texts_for (serve address count stamp) = texts.serve address (decimal count) (option_map decimal stamp)
+texts_for replay = texts.replay
+texts_for (drill number events) = texts.drill (decimal number) (decimal events)
 texts_for (format cap) = texts.format (decimal cap)
 texts_for showlog = texts.showlog
 texts_for export = texts.export
@@ -41,6 +43,8 @@ asked_form words (session None) asks = asks
 asked_form words (session (Some stamp)) asks = asks.0
 asked_form words (serve address count None) asks = asks.0
 asked_form words (serve address count (Some stamp)) asks = asks.0
+asked_form words replay asks = asks
+asked_form words (drill number events) asks = asks.0
 asked_form words (format cap) asks = asks.0
 asked_form words showlog asks = asks
 asked_form words export asks = asks
@@ -52,6 +56,9 @@ asked_plain words (session (Some stamp)) asks = (λ dash. absurd (omega (arith, 
 asked_plain words (serve address count None) asks = (λ dash. absurd (omega (arith, dash)), (asks.1, (decimal_plain count (omega (arith, asks.2)), tt)))
 asked_plain words (serve address count (Some stamp)) asks =
     (λ dash. absurd (omega (arith, dash)), (asks.1, (decimal_plain count (omega (arith, asks.2)), (decimal_plain stamp asks.3, tt))))
+asked_plain words replay asks = (λ dash. absurd (omega (arith, dash)), tt)
+asked_plain words (drill number events) asks =
+    (λ dash. absurd (omega (arith, dash)), (decimal_plain number asks.1, (decimal_plain events (omega (arith, asks.2)), tt)))
 asked_plain words (format cap) asks = (λ dash. absurd (omega (arith, dash)), (decimal_plain cap (omega (arith, asks.1)), tt))
 asked_plain words showlog asks = (λ dash. absurd (omega (arith, dash)), tt)
 asked_plain words export asks = (λ dash. absurd (omega (arith, dash)), tt)
@@ -67,6 +74,8 @@ says words (session None) asks = (refl, tt)
 says words (session (Some stamp)) asks = (refl, asks.1)
 says words (serve address count None) asks = (refl, asks.2, tt)
 says words (serve address count (Some stamp)) asks = (refl, asks.2, asks.3)
+says words replay asks = refl
+says words (drill number events) asks = (refl, asks.1, asks.2)
 says words (format cap) asks = (refl, asks.1)
 says words showlog asks = refl
 says words export asks = refl

@@ -8,6 +8,8 @@ use Rattle.command_words.specs.declared.form.Form.TheVariants as variants
 pub data Texts : Type 0 where
   session : Option (List ℕ) → Texts
   serve : List ℕ → List ℕ → Option (List ℕ) → Texts
+  replay : Texts
+  drill : List ℕ → List ℕ → Texts
   format : List ℕ → Texts
   showlog : Texts
   export : Texts
@@ -18,6 +20,8 @@ words_of (session None) = codes "session" ∷ []
 words_of (session (Some stamp)) = codes "session" ∷ stamp ∷ []
 words_of (serve address count None) = codes "serve" ∷ address ∷ count ∷ []
 words_of (serve address count (Some stamp)) = codes "serve" ∷ address ∷ count ∷ stamp ∷ []
+words_of replay = codes "replay" ∷ []
+words_of (drill number events) = codes "drill" ∷ number ∷ events ∷ []
 words_of (format cap) = codes "format" ∷ cap ∷ []
 words_of showlog = codes "showlog" ∷ []
 words_of export = codes "export" ∷ []
@@ -37,6 +41,8 @@ text_in = option_map (λ w. w.now)
 abbrev pub texts_of : Form → Texts
 texts_of (variants.Session stamp) = session (text_in stamp)
 texts_of (variants.Serve address count stamp) = serve address.now count.now (text_in stamp)
+texts_of variants.Replay = replay
+texts_of (variants.Drill number events) = drill number.now events.now
 texts_of (variants.Format cap) = format cap.now
 texts_of variants.Showlog = showlog
 texts_of variants.Export = export

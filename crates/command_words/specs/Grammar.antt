@@ -4,7 +4,7 @@ use Rattle.std.specs.Prelude.{option_map, option_and_then}
 use Rattle.std.specs.Str.{bytes_eq}
 use Rattle.clap.specs.Words.{App, Row, Rule, Shape, Text, first_of, new_rule, with_subcommand}
 use Rattle.clap.specs.Simple.{new_shape}
-use Rattle.command_words.specs.Forms.{Texts, ask, export, format, serve, session, showlog}
+use Rattle.command_words.specs.Forms.{Texts, ask, drill, export, format, replay, serve, session, showlog}
 
 -- An argument, and whether it is needed.
 abbrev pub rule : Text → Bool → Rule
@@ -23,6 +23,9 @@ session_rules = rule (codes "stamp") false ∷ []
 abbrev pub serve_rules : List Rule
 serve_rules = rule (codes "address") true ∷ rule (codes "count") true ∷ rule (codes "stamp") false ∷ []
 
+abbrev pub drill_rules : List Rule
+drill_rules = rule (codes "number") true ∷ rule (codes "events") true ∷ []
+
 abbrev pub format_rules : List Rule
 format_rules = rule (codes "cap") true ∷ []
 
@@ -40,12 +43,15 @@ top = record {
   subs = [];
 }
 
--- The program with its first two subcommands, with its first four, and with all.
+-- The program with its first two subcommands, with its first four, with its first six, and with all.
 abbrev pub to_serve : App
 to_serve = with_subcommand (with_subcommand top (shape (codes "session") session_rules)) (shape (codes "serve") serve_rules)
 
+abbrev pub to_drill : App
+to_drill = with_subcommand (with_subcommand to_serve (shape (codes "replay") [])) (shape (codes "drill") drill_rules)
+
 abbrev pub to_showlog : App
-to_showlog = with_subcommand (with_subcommand to_serve (shape (codes "format") format_rules)) (shape (codes "showlog") [])
+to_showlog = with_subcommand (with_subcommand to_drill (shape (codes "format") format_rules)) (shape (codes "showlog") [])
 
 abbrev pub program : App
 program = with_subcommand (with_subcommand to_showlog (shape (codes "export") [])) (shape (codes "ask") ask_rules)
@@ -57,10 +63,15 @@ session_texts stamp = Some (session stamp)
 abbrev pub serve_texts : Option Text → Option Text → Option Text → Option Texts
 serve_texts address count stamp = option_and_then (λ a. option_map (λ n. serve a n stamp) count) address
 
+abbrev pub drill_texts : Option Text → Option Text → Option Texts
+drill_texts number events = option_and_then (λ n. option_map (drill n) events) number
+
 abbrev pub texts_by : Text → List Row → Option Texts
 texts_by name rows =
     if bytes_eq name (codes "session") then session_texts (first_of (codes "stamp") rows)
     else if bytes_eq name (codes "serve") then serve_texts (first_of (codes "address") rows) (first_of (codes "count") rows) (first_of (codes "stamp") rows)
+    else if bytes_eq name (codes "replay") then Some replay
+    else if bytes_eq name (codes "drill") then drill_texts (first_of (codes "number") rows) (first_of (codes "events") rows)
     else if bytes_eq name (codes "format") then option_map format (first_of (codes "cap") rows)
     else if bytes_eq name (codes "showlog") then Some showlog
     else if bytes_eq name (codes "export") then Some export

@@ -23,6 +23,13 @@ pub enum Command<'a> {
         count: u16,
         stamp: Option<u64>,
     },
+    /// `replay`
+    Replay,
+    /// `drill NUMBER EVENTS`
+    Drill {
+        number: u64,
+        events: u32,
+    },
     /// `format CAP`
     Format {
         cap: u32,
@@ -60,6 +67,8 @@ fn read<'a>(form: Form<'a>) -> Option<Command<'a>>
             count,
             stamp,
         } => read_serve(address, count, stamp),
+        Form::Replay => Some(Command::Replay),
+        Form::Drill { number, events } => read_drill(number, events),
         Form::Format { cap } => read_format(cap),
         Form::Showlog => Some(Command::Showlog),
         Form::Export => Some(Command::Export),
@@ -97,6 +106,15 @@ fn read_serve<'a>(address: &'a str, count: &'a str, stamp: Option<&'a str>) -> O
             stamp: Some(number(stamp)?),
         }),
     }
+}
+
+fn read_drill<'a>(number_word: &'a str, events_word: &'a str) -> Option<Command<'a>>
+    ensures found { IfSome result (λ command. Says (forms.drill number_word.entry.now events_word.entry.now) (asked_by command)) }
+    ensures only { (asked : Asked) → Says (forms.drill number_word.entry.now events_word.entry.now) asked → option_map asked_by result ≡ Some asked }
+{
+    let number = number(number_word)?;
+    let events = between(events_word, 1, 100_000)?;
+    Some(Command::Drill { number, events })
 }
 
 fn read_format<'a>(cap: &'a str) -> Option<Command<'a>>

@@ -4,7 +4,7 @@ ghost use Rattle.std.specs.Prelude.{◌≡◌, ◌↔◌, IfOk, IfSome, IsTrue, 
 ghost use Rattle.std.specs.List.{All};
 ghost use Rattle.clap.specs.Words.{first_of, found_of, rows_of, subcommand_rows_of};
 ghost use Rattle.command_words.specs.Forms.{HasForm, IsPlain, Texts, ask, format, text_in, texts_of};
-ghost use Rattle.command_words.specs.Grammar.{serve_texts, session_texts, texts_by, texts_in};
+ghost use Rattle.command_words.specs.Grammar.{drill_texts, serve_texts, session_texts, texts_by, texts_in};
 
 use crate::grammar::matches_of;
 use clap::ArgMatches;
@@ -20,6 +20,11 @@ pub(crate) enum Form<'a> {
         address: &'a str,
         count: &'a str,
         stamp: Option<&'a str>,
+    },
+    Replay,
+    Drill {
+        number: &'a str,
+        events: &'a str,
     },
     Format {
         cap: &'a str,
@@ -89,6 +94,8 @@ fn form_by<'a>(name: &str, given: &ArgMatches<'a>) -> Option<Form<'a>>
             word_for(given, "count"),
             word_for(given, "stamp"),
         ),
+        "replay" => Some(Form::Replay),
+        "drill" => drill_form(word_for(given, "number"), word_for(given, "events")),
         "format" => format_form(word_for(given, "cap")),
         "showlog" => Some(Form::Showlog),
         "export" => Some(Form::Export),
@@ -123,6 +130,15 @@ fn serve_form<'a>(
             count,
             stamp,
         }),
+        _ => None,
+    }
+}
+
+fn drill_form<'a>(number: Option<&'a str>, events: Option<&'a str>) -> Option<Form<'a>>
+    ensures { option_map texts_of result ≡ drill_texts (text_in number.entry) (text_in events.entry) }
+{
+    match (number, events) {
+        (Some(number), Some(events)) => Some(Form::Drill { number, events }),
         _ => None,
     }
 }

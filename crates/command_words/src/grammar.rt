@@ -3,7 +3,7 @@
 ghost use Rattle.std.specs.Prelude.{◌≡◌, ◌≢◌, ◌∷◌, [], true, false, codes, map, string_bytes, IfOk, MatchOption};
 ghost use Rattle.clap.specs.declared.builder.command.Command.TheViews.{out-Command};
 ghost use Rattle.clap.specs.Words.{app_of, fault_of, rule_of, subcommand_of, subcommand_rows_of};
-ghost use Rattle.command_words.specs.Grammar.{app, ask_rules, format_rules, program, rule, serve_rules, session_rules, to_serve, to_showlog, top};
+ghost use Rattle.command_words.specs.Grammar.{app, ask_rules, drill_rules, format_rules, program, rule, serve_rules, session_rules, to_drill, to_serve, to_showlog, top};
 
 use clap::error::ErrorKind;
 use clap::{Arg, ArgMatches, Command};
@@ -36,14 +36,24 @@ fn program<'a>(alloc: Global) -> Result<Command<'a>, AllocError>
         .subcommand(ask_command)
 }
 
-/// The program with its first four subcommands.
+/// The program with its first six subcommands.
 fn to_showlog<'a>(alloc: Global) -> Result<Command<'a>, AllocError>
     ensures { IfOk result (λ c. app_of c ≡ to_showlog) }
 {
     let format_command = format_log(alloc)?;
-    to_serve(alloc)?
+    to_drill(alloc)?
         .subcommand(format_command)?
         .subcommand(bare(alloc, "showlog"))
+}
+
+/// The program with its first four subcommands.
+fn to_drill<'a>(alloc: Global) -> Result<Command<'a>, AllocError>
+    ensures { IfOk result (λ c. app_of c ≡ to_drill) }
+{
+    let drill_command = drill(alloc)?;
+    to_serve(alloc)?
+        .subcommand(bare(alloc, "replay"))?
+        .subcommand(drill_command)
 }
 
 /// The program with its first two subcommands.
@@ -80,6 +90,14 @@ fn serve<'a>(alloc: Global) -> Result<Command<'a>, AllocError>
         .arg(needed(alloc, "address"))?
         .arg(needed(alloc, "count"))?
         .arg(given(alloc, "stamp"))
+}
+
+fn drill<'a>(alloc: Global) -> Result<Command<'a>, AllocError>
+    ensures { IfOk result (λ c. (app_of c ≡ app (codes "drill") drill_rules) × ((out-Command c).has_globals ≡ false)) }
+{
+    Command::new(alloc, "drill")
+        .arg(needed(alloc, "number"))?
+        .arg(needed(alloc, "events"))
 }
 
 fn format_log<'a>(alloc: Global) -> Result<Command<'a>, AllocError>
