@@ -23,7 +23,7 @@ def main():
             sys.exit("two runs print different lines")
         last = Timed(words)
         print(line.strip())
-        print(f"{count:,} rounds: {last.text()}, {last.memory / count:.0f} bytes a round", flush=True)
+        print(f"{count:,} rounds: {last.text()}, or {last.memory / count:.0f} bytes a round", flush=True)
     aim(f"{ROUNDS[-1]:,} rounds", last.best, MOST_SECONDS)
 
 

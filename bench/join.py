@@ -54,7 +54,7 @@ def tell(count):
     print(
         f"{count} values: {first.best:.3f} s to fill; {recovered.best - first.best:.3f} s more to recover; {pulled:.3f} s "
         f"more to pull {size:,} bytes in {len(pieces)} pieces, {pulled / (size / (1 << 20)) * 1e3:.2f} ms a MiB; "
-        f"{whole.memory / 1e6:.1f} MB of memory",
+        f"at most {whole.memory / 1e6:.1f} MB of memory",
         flush=True,
     )
 

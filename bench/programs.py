@@ -12,7 +12,10 @@ PROGRAM = TOP / "crates" / "mscs" / "out" / "mscs"
 
 
 class Timed:
-    """The times of some runs with the output thrown away, and the greatest memory of one in bytes."""
+    """The times of some runs with the output thrown away, and the greatest memory of one in bytes.
+
+    The system counts into it what this script itself held when it started the program, so it is told as a bound.
+    """
 
     def __init__(self, words, data=b"", runs=5):
         self.times, self.memory = [], 0
@@ -35,7 +38,7 @@ class Timed:
 
     def text(self):
         median = statistics.median(self.times)
-        return f"best {self.best:.3f} s, median {median:.3f} s of {len(self.times)} runs, {self.memory / 1e6:.1f} MB of memory"
+        return f"best {self.best:.3f} s, median {median:.3f} s of {len(self.times)} runs, at most {self.memory / 1e6:.1f} MB of memory"
 
 
 def printed(words, data=b""):
