@@ -1,14 +1,18 @@
 #!/usr/bin/env python3
-"""Whether the program, its usage text, the manual, the manual page and the completions have the same commands.
+"""Whether the program, its usage text, the manual, the manual page and the completions have the same commands, and
+whether the program, the manual, the manual page and README.md have the same statuses.
 
-The usage text and the words of all commands are read from the definitions that the program's contracts cite. The usage
-text names the first commands of the manual; the others are named there alone. It ends with 0 where all agree.
+The usage text, the words of all commands and the numbers of the statuses are read from the definitions that the
+program's contracts cite. The usage text names the first commands of the manual; the others are named there alone. It
+ends with 0 where all agree.
 """
 import pathlib
 import re
 import sys
 
 TOP = pathlib.Path(__file__).resolve().parent.parent
+# The status of the launcher, which the program doesn't have.
+LAUNCHER = 70
 
 
 def read(name):
@@ -48,6 +52,20 @@ def in_completions():
     return re.search(r'-W "([^"]*)"', read("completions/mscs.bash"))[1].split()
 
 
+def statuses_in_program():
+    numbers = re.findall(r"^number_of .* = (\d+)$", read("crates/clus_cli/specs/Statuses.antt"), re.M)
+    return sorted({int(it) for it in numbers})
+
+
+def statuses_in_table(name):
+    return sorted({int(it) for it in re.findall(r"^\| (\d+) \|", read(name), re.M)} - {LAUNCHER})
+
+
+def statuses_in_page():
+    part = read("man/mscs.1").partition(".SH EXIT STATUS")[2].partition(".SH EXAMPLES")[0]
+    return sorted({int(it) for it in re.findall(r"^\.TP\n(\d+)$", part, re.M)} - {LAUNCHER})
+
+
 def main():
     usage, manual = in_usage(), in_manual()
     names = [form.split()[0] for form in manual]
@@ -58,6 +76,9 @@ def main():
         "man/mscs.1, its synopsis": (in_page(), manual),
         "man/mscs.1, its commands": (in_page_sections(), manual),
         "completions/mscs.bash": (in_completions(), names),
+        "docs/commands.md, its statuses": (statuses_in_table("docs/commands.md"), statuses_in_program()),
+        "README.md, its statuses": (statuses_in_table("README.md"), statuses_in_program()),
+        "man/mscs.1, its statuses": (statuses_in_page(), statuses_in_program()),
     }
     is_good = bool(usage)
     for place, (found, expected) in wanted.items():
@@ -68,7 +89,7 @@ def main():
         print("docs/commands.md: its table of statuses has another usage text")
         is_good = False
     if is_good:
-        print(f"the same {len(manual)} commands everywhere: {', '.join(names)}")
+        print(f"the same {len(manual)} commands everywhere: {', '.join(names)}; and {len(statuses_in_program())} statuses")
     sys.exit(0 if is_good else 1)
 
 

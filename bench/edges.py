@@ -75,7 +75,10 @@ def log_of(folder):
 
 
 def closed_streams():
-    commands = [["session"], ["serve", f"127.0.0.1:{PORT}", "1"], ["format", "4096"], ["showlog"], ["export"], ["ask", f"127.0.0.1:{PORT}"]]
+    commands = [
+        ["session"], ["serve", f"127.0.0.1:{PORT}", "1"], ["replay"], ["drill", "7", "10"], ["format", "4096"], ["showlog"],
+        ["export"], ["ask", f"127.0.0.1:{PORT}"],
+    ]
     for words in commands:
         for count in (1, 2, 3):
             for closed in itertools.combinations((0, 1, 2), count):
