@@ -44,7 +44,7 @@ pub returns-in-Session-clause-bad_log : goal.returns-in-Session-clause-bad_log
 returns-in-Session-clause-bad_log g c = λ place asks told bad. c.serve_stream.ensures.bad_log place told bad
 
 pub returns-in-Session-clause-nothing : goal.returns-in-Session-clause-nothing
-returns-in-Session-clause-nothing g c = λ none. absurd (none _ c.in-Ok-Some.ensures.found)
+returns-in-Session-clause-nothing g c = λ none. absurd (none (session c.in-Session.stamp) (rw (c.in-Ok-Some.field-0-is, c.in-Session.is) at c.in-Ok-Some.ensures.found))
 
 pub returns-in-Session-clause-serve : goal.returns-in-Session-clause-serve
 returns-in-Session-clause-serve g c = λ address count stamp asks. absurd (cc (rw (c.in-Ok-Some.field-0-is, c.in-Session.is) at (c.in-Ok-Some.ensures.only (serve address count stamp) asks)))
@@ -101,7 +101,8 @@ pub returns-in-Serve-clause-bad_log : goal.returns-in-Serve-clause-bad_log
 returns-in-Serve-clause-bad_log g c = λ place asks told bad. c.serve_door.ensures.bad_log place told bad
 
 pub returns-in-Serve-clause-nothing : goal.returns-in-Serve-clause-nothing
-returns-in-Serve-clause-nothing g c = λ none. absurd (none _ c.in-Ok-Some.ensures.found)
+returns-in-Serve-clause-nothing g c = λ none.
+    absurd (none (serve _ c.in-Serve.count c.in-Serve.stamp) (rw (c.in-Ok-Some.field-0-is, c.in-Serve.is) at c.in-Ok-Some.ensures.found))
 
 pub returns-in-Serve-clause-session : goal.returns-in-Serve-clause-session
 returns-in-Serve-clause-session g c = λ stamp asks. absurd (cc (rw (c.in-Ok-Some.field-0-is, c.in-Serve.is) at (c.in-Ok-Some.ensures.only (session stamp) asks)))
