@@ -80,3 +80,8 @@ pub behind_none : (c : ℕ) (first : AloneRun) (talks : List Talk) → first.rec
 unfolding first_behind
 behind_none c first [] none = none
 behind_none c first (talk ∷ talks) none = behind_none (c + 1) (next_alone (alone c first talk.given)) talks refl
+
+pub behind_silent : (c : ℕ) (first : AloneRun) (talks : List Talk) → first.output ≡ [] → (first_behind c first talks).output ≡ []
+unfolding first_behind
+behind_silent c first [] silent = silent
+behind_silent c first (talk ∷ talks) silent = behind_silent (c + 1) (next_alone (alone c first talk.given)) talks refl

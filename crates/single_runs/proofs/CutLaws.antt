@@ -42,9 +42,9 @@ use Rattle.single_runs.proofs.DoneLaws.{ids_at}
 use Rattle.single_runs.proofs.Keeps.{keeps_opened, logs_from}
 
 module _ (stamp : ℕ) (v : DiskView) (first : AloneRun) (x : MemberState) (u : DiskView) (begins : BeginsOn stamp v first x u) (before : List Entry) (c : ℕ) (b : Beginning)
-    (logs : LogsAll before x u b.member b.disk) (ids : AllByRecursion HasId before) (named : IsNamed b.first.single) (none : b.first.records ≡ []) (told : IsTrue v.tells) where
-  abbrev Leaves : List ℕ → DiskView → Type 0
-  Leaves stream w = (more : FirstRecords c b.first stream) × IsCut (found_at begins) (contents_at begins) (before ++ more.records) more.doubtful v w
+    (logs : LogsAll before x u b.member b.disk) (ids : AllByRecursion HasId before) (named : IsNamed b.first.single) (none : b.first.records ≡ []) (silent : b.first.output ≡ []) (told : IsTrue v.tells) where
+  abbrev Leaves : List ℕ → List Effect → DiskView → Type 0
+  Leaves stream es w = (more : FirstRecords c b.first stream (told_to c es)) × IsCut (found_at begins) (contents_at begins) (before ++ more.records) more.doubtful v w
 
   module _ (added : List Entry) (y : MemberState) (m : DiskView) (further : LogsAll added b.member b.disk y m) where
     logs_here : LogsAll (before ++ added) begins.node.member u y m
@@ -57,7 +57,7 @@ module _ (stamp : ℕ) (v : DiskView) (first : AloneRun) (x : MemberState) (u : 
     images = done.images;
   }
 
-  heard_leaves : (stream : List ℕ) (es : List Effect) (s : SingleState) (w : DiskView) → Heard c b stream es s w → Leaves stream w
+  heard_leaves : (stream : List ℕ) (es : List Effect) (s : SingleState) (w : DiskView) → Heard c b stream es s w → Leaves stream es w
   heard_leaves stream es s w h =
       let way = h.under_way in
       let named_added = ids_at c b.first stream (alone_node h.now s.left) (told_to c es) way.added way.stands named none in (
@@ -67,6 +67,7 @@ module _ (stamp : ℕ) (v : DiskView) (first : AloneRun) (x : MemberState) (u : 
           first_of = λ given fault items.
               subst (λ (l : List Entry). BeginsWith (alone c b.first given).records l) (sym (append-nil way.added))
               (tells_first c b.first stream (alone_node h.now s.left) (told_to c es) way.added way.stands given fault items).logged;
+          answered = h.answered;
         },
         whole (before ++ way.added) w
             (run_is_done (found_at begins) (contents_at begins) (before ++ way.added) v begins.node u h.now.member w (keeps_opened stamp v first x u begins told)
@@ -81,8 +82,8 @@ module _ (stamp : ℕ) (v : DiskView) (first : AloneRun) (x : MemberState) (u : 
 
   -- ---- the run is cut off
 
-  halted_leaves : (cause : HaltCause) (stream : List ℕ) (es : List Effect) (w : DiskView) → HaltsFor cause c b stream es w → Leaves stream w
-  halted_leaves cause stream es w (at, is) =
+  halted_leaves : (cause : HaltCause) (stream : List ℕ) (es : List Effect) (w : DiskView) → HaltsFor cause c b stream es w → Leaves stream es w
+  halted_leaves cause stream es w (at, is, answered) =
       let h = at.halted in
       let y = at.before in
       let n = next stream (told_to c at.said) at.added at.message h.left y at.disk at.logs h.stood in (
@@ -90,13 +91,14 @@ module _ (stamp : ℕ) (v : DiskView) (first : AloneRun) (x : MemberState) (u : 
           records = at.added;
           doubtful = in_doubt_at (to_log y.member.rules at.message) h.added;
           first_of = λ given fault items. (doubt_is_alones c b.first stream (told_to c at.said) at.added (to_log y.member.rules at.message) h.added n given fault items).logged;
+          answered = answered;
         },
         run_is_cut (found_at begins) (contents_at begins) (before ++ at.added) v begins.node u y.member at.disk at.message h.added w (keeps_opened stamp v first x u begins told)
             (both_named before at.added ids (ids_at c b.first stream (alone_node y (at.message ∷ h.left)) (told_to c at.said) at.added h.stood named none))
             (logs_here at.added y.member at.disk at.logs) (λ e logged. n.named named e logged) h.logs,
       )
 
-  broken_leaves : (stream : List ℕ) (es : List Effect) (s : SingleState) (m w : DiskView) (error : AllocError) → Heard c b stream es s m → BreaksOff s m error w → Leaves stream w
+  broken_leaves : (stream : List ℕ) (es : List Effect) (s : SingleState) (m w : DiskView) (error : AllocError) → Heard c b stream es s m → BreaksOff s m error w → Leaves stream es w
   broken_leaves stream es s m w error h off =
       let way = h.under_way in
       let y = h.now in
@@ -109,6 +111,7 @@ module _ (stamp : ℕ) (v : DiskView) (first : AloneRun) (x : MemberState) (u : 
           records = way.added;
           doubtful = in_doubt_at (to_log y.member.rules off.message) receives.event.added;
           first_of = λ given fault items. (doubt_is_alones c b.first stream (told_to c es) way.added (to_log y.member.rules off.message) receives.event.added n given fault items).logged;
+          answered = h.answered;
         },
         run_is_cut (found_at begins) (contents_at begins) (before ++ way.added) v begins.node u y.member m off.message receives.event.added w (keeps_opened stamp v first x u begins told)
             (both_named before way.added ids (ids_at c b.first stream (alone_node y (off.message ∷ off.others)) (told_to c es) way.added stands named none))
@@ -116,16 +119,21 @@ module _ (stamp : ℕ) (v : DiskView) (first : AloneRun) (x : MemberState) (u : 
       )
 
   -- As the connection was to begin no record was logged.
-  nothing_leaves : (stream : List ℕ) (w : DiskView) → w ≡ b.disk → Leaves stream w
-  nothing_leaves stream w still =
+  nothing_leaves : (stream : List ℕ) (es : List Effect) (w : DiskView) → stream ≡ [] → es ≡ [] → w ≡ b.disk → Leaves stream es w
+  nothing_leaves stream es w unheard untold still =
       let same : IsStill b.member b.member = record { log = refl; replica = refl; last = refl } in (
-        record { records = []; doubtful = None; first_of = λ given fault items. ((alone c b.first given).records, refl) },
+        record {
+          records = [];
+          doubtful = None;
+          first_of = λ given fault items. ((alone c b.first given).records, refl);
+          answered = λ given fault items. record { front = []; among = (given, refl); told = ap (told_to c) untold ∙ sym silent; logged = ([], sym none ∙ sym (append-nil b.first.records)) };
+        },
         whole (before ++ []) w
             (run_is_done (found_at begins) (contents_at begins) (before ++ []) v begins.node u b.member w (keeps_opened stamp v first x u begins told)
             (both_named before [] ids tt) (logs_here [] b.member w (still, same))),
       )
 
-  cut_leaves : (ended : Ended) (stream : List ℕ) (es : List Effect) (w : DiskView) → CutOff ended c b stream es w → Leaves stream w
+  cut_leaves : (ended : Ended) (stream : List ℕ) (es : List Effect) (w : DiskView) → CutOff ended c b stream es w → Leaves stream es w
   cut_leaves Done stream es w off = absurd off
   cut_leaves ReadFault stream es w (s, h) = heard_leaves stream es s w h
   cut_leaves WriteFault stream es w (s, h) = heard_leaves stream es s w h
@@ -134,10 +142,10 @@ module _ (stamp : ℕ) (v : DiskView) (first : AloneRun) (x : MemberState) (u : 
   cut_leaves (BadLog place) stream es w off = halted_leaves (halt.Image place) stream es w off
   cut_leaves NoMemory stream es w (inl (s, m, h, inl still)) = heard_leaves stream es s w (subst (λ (d : DiskView). Heard c b stream es s d) (sym still) h)
   cut_leaves NoMemory stream es w (inl (s, m, h, inr (error, off))) = broken_leaves stream es s m w error h off
-  cut_leaves NoMemory stream es w (inr (nothing, silent, still)) = nothing_leaves stream w still
+  cut_leaves NoMemory stream es w (inr (unheard, untold, still)) = nothing_leaves stream es w unheard untold still
 
 pub leaves_first : (stamp : ℕ) (v : DiskView) (first : AloneRun) (x : MemberState) (u : DiskView) (begins : BeginsOn stamp v first x u) (before : List Entry) (c : ℕ) (b : Beginning)
-    → LogsAll before x u b.member b.disk → AllByRecursion HasId before → IsNamed b.first.single → b.first.records ≡ []
-    → (ended : Ended) (stream : List ℕ) (es : List Effect) (w : DiskView) → CutOff ended c b stream es w → LeavesFirst begins before c b.first stream w
-leaves_first stamp v first x u begins before c b logs ids named none ended stream es w off =
-    λ told. cut_leaves stamp v first x u begins before c b logs ids named none told ended stream es w off
+    → LogsAll before x u b.member b.disk → AllByRecursion HasId before → IsNamed b.first.single → b.first.records ≡ [] → b.first.output ≡ []
+    → (ended : Ended) (stream : List ℕ) (es : List Effect) (w : DiskView) → CutOff ended c b stream es w → LeavesFirst begins before c b.first stream (told_to c es) w
+leaves_first stamp v first x u begins before c b logs ids named none silent ended stream es w off =
+    λ told. cut_leaves stamp v first x u begins before c b logs ids named none silent told ended stream es w off

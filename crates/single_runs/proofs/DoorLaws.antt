@@ -13,10 +13,10 @@ use Rattle.single_server.specs.Hearing.{Beginning}
 use Rattle.single_server.specs.Serving.{HaveServed, HaveServedInPart, ServesDoor, ServesOpened}
 use Rattle.single_server.specs.Visits.{records_of}
 use Rattle.single_runs.specs.Door.{RunsDoor, ServesInPart, ServesWhole}
-use Rattle.single_runs.proofs.Counting.{IsCounted, behind_counted, behind_none, talks_named}
+use Rattle.single_runs.proofs.Counting.{IsCounted, behind_counted, behind_none, behind_silent, talks_named}
 use Rattle.single_runs.proofs.CutLaws.{leaves_first}
 use Rattle.single_runs.proofs.DoneLaws.{leaves_all}
-use Rattle.single_runs.proofs.Keeps.{named, none_made}
+use Rattle.single_runs.proofs.Keeps.{named, none_made, none_told}
 
 module _ (stamp count : ℕ) (old now : Option Visits) (v w : DiskView) where
   starts_counted : (b : Beginning) → BeginsOn stamp v b.first b.member b.disk → IsCounted b.first
@@ -44,12 +44,13 @@ module _ (stamp count : ℕ) (old now : Option Visits) (v w : DiskView) where
       let counted = starts_counted b begins in
       let last : IsCounted part.last.first = subst (λ (r : AloneRun). IsCounted r) (sym part.goes_on) (behind_counted 1 b.first part.talks counted) in
       let none : part.last.first.records ≡ [] = subst (λ (r : AloneRun). r.records ≡ []) (sym part.goes_on) (behind_none 1 b.first part.talks (none_made stamp v b.first b.member b.disk begins)) in
+      let silent : part.last.first.output ≡ [] = subst (λ (r : AloneRun). r.output ≡ []) (sym part.goes_on) (behind_silent 1 b.first part.talks (none_told stamp v b.first b.member b.disk begins)) in
       record {
         start = b;
         begins = begins;
         served = part;
-        leaves = leaves_first stamp v b.first b.member b.disk begins (records_of 1 b.first part.talks) (1 + length part.talks) part.last part.logs (talks_named 1 b.first part.talks counted) last.named none ended
-            part.off.stream part.off.told w part.off.cut;
+        leaves = leaves_first stamp v b.first b.member b.disk begins (records_of 1 b.first part.talks) (1 + length part.talks) part.last part.logs (talks_named 1 b.first part.talks counted) last.named none
+            silent ended part.off.stream part.off.told w part.off.cut;
       }
 
   pub runs_door : (ended : Ended) → ServesDoor ended stamp count old now v w → RunsDoor ended stamp count old now v w

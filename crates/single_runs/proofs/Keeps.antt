@@ -121,5 +121,8 @@ module _ (stamp : ℕ) (v : DiskView) (first : AloneRun) (x : MemberState) (w : 
   pub none_made : first.records ≡ []
   none_made = ap (λ (r : AloneRun). r.records) b.is
 
+  pub none_told : first.output ≡ []
+  none_told = ap (λ (r : AloneRun). r.output) b.is
+
   pub logs_from : (es : List Entry) (y : MemberState) (u : DiskView) → LogsAll es x w y u → LogsAll es b.node.member w y u
   logs_from es y u logs = subst (λ (m : MemberState). LogsAll es m w y u) b.kept logs

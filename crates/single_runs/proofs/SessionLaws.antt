@@ -10,7 +10,7 @@ use Rattle.single_server.specs.Session.{IsDone, IsInPart, Serves}
 use Rattle.single_runs.specs.Session.{RunsInPart, RunsSession, RunsToEnd}
 use Rattle.single_runs.proofs.CutLaws.{leaves_first}
 use Rattle.single_runs.proofs.DoneLaws.{ids_at, leaves_all}
-use Rattle.single_runs.proofs.Keeps.{named, none_made}
+use Rattle.single_runs.proofs.Keeps.{named, none_made, none_told}
 
 module _ (stamp : ℕ) (left now written holds : Option (List ℕ)) (v w : DiskView) where
   to_end : IsDone stamp left now written holds v w → RunsToEnd stamp left now written holds v w
@@ -40,8 +40,8 @@ module _ (stamp : ℕ) (left now written holds : Option (List ℕ)) (v w : DiskV
       let still : IsStill b.member b.member = record { log = refl; replica = refl; last = refl } in
       record {
         served = p;
-        leaves = leaves_first stamp v b.first b.member b.disk p.begins [] 1 b (refl, still) tt (named stamp v b.first b.member b.disk p.begins) (none_made stamp v b.first b.member b.disk p.begins) ended
-            p.off.stream p.off.told w p.off.cut;
+        leaves = leaves_first stamp v b.first b.member b.disk p.begins [] 1 b (refl, still) tt (named stamp v b.first b.member b.disk p.begins) (none_made stamp v b.first b.member b.disk p.begins)
+            (none_told stamp v b.first b.member b.disk p.begins) ended p.off.stream p.off.told w p.off.cut;
       }
 
   pub runs_session : (ended : Ended) → Serves ended stamp left now written holds v w → RunsSession ended stamp left now written holds v w

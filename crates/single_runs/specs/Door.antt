@@ -2,6 +2,7 @@
 use Rattle.std.specs.Prelude.{◌≡◌, ◌⊎◌, ℕ, ◌+◌, ◌<◌, List, length, Option}
 use Rattle.edge_io.specs.Visits.{Visits}
 use Rattle.disk_core.specs.Views.{DiskView}
+use Rattle.single_items.specs.Events.{told_to}
 use Rattle.single_server.specs.declared.ended.Ended.{Ended}
 use Rattle.single_server.specs.declared.ended.Ended.TheVariants.{BadLog, DiskFault, Done, Fenced, NoMemory, ReadFault, WriteFault}
 use Rattle.single_server.specs.Begins.{BeginsOn}
@@ -17,12 +18,12 @@ pub record ServesWhole (stamp count : ℕ) (old now : Option Visits) (v w : Disk
   pub served : HaveServed start count old now w
   pub leaves : LeavesAll begins (records_of 1 start.first served.talks) w
 
--- The run was cut off at a connection, behind others.
+-- The run was cut off at a connection, behind others. That one was sent all that was told, or a front of it where a write failed.
 pub record ServesInPart (ended : Ended) (stamp count : ℕ) (old now : Option Visits) (v w : DiskView) : Type 0 where
   pub start : Beginning
   pub begins : BeginsOn stamp v start.first start.member start.disk
   pub served : HaveServedInPart ended start count old now w
-  pub leaves : LeavesFirst begins (records_of 1 start.first served.talks) (1 + length served.talks) served.last.first served.off.stream w
+  pub leaves : LeavesFirst begins (records_of 1 start.first served.talks) (1 + length served.talks) served.last.first served.off.stream (told_to (1 + length served.talks) served.off.told) w
 
 abbrev pub RunsDoor : Ended → ℕ → ℕ → Option Visits → Option Visits → DiskView → DiskView → Type 0
 RunsDoor Done stamp count old now v w = (out : ServesWhole stamp count old now v w) × AreEnough count out.served.talks now

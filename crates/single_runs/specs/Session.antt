@@ -1,6 +1,7 @@
 -- What a run over one recorded stream does, and what it leaves on the disk.
 use Rattle.std.specs.Prelude.{◌≡◌, ◌⊎◌, ℕ, List, [], Option}
 use Rattle.disk_core.specs.Views.{DiskView}
+use Rattle.single_items.specs.Events.{told_to}
 use Rattle.single_server.specs.declared.ended.Ended.{Ended}
 use Rattle.single_server.specs.declared.ended.Ended.TheVariants.{BadLog, DiskFault, Done, Fenced, NoMemory, ReadFault, WriteFault}
 use Rattle.single_server.specs.Session.{IsDone, IsInPart, IsUnserved}
@@ -11,10 +12,10 @@ pub record RunsToEnd (stamp : ℕ) (left now written holds : Option (List ℕ)) 
   pub served : IsDone stamp left now written holds v w
   pub leaves : LeavesAll served.begins served.records w
 
--- The run was cut off behind the opening of the log.
+-- The run was cut off behind the opening of the log. What was written is all that was told, or a front of it where a write failed.
 pub record RunsInPart (ended : Ended) (stamp : ℕ) (left now written holds : Option (List ℕ)) (v w : DiskView) : Type 0 where
   pub served : IsInPart ended stamp left now written holds v w
-  pub leaves : LeavesFirst served.begins [] 1 served.start.first served.off.stream w
+  pub leaves : LeavesFirst served.begins [] 1 served.start.first served.off.stream (told_to 1 served.off.told) w
 
 abbrev pub RunsSession : Ended → ℕ → Option (List ℕ) → Option (List ℕ) → Option (List ℕ) → Option (List ℕ) → DiskView → DiskView → Type 0
 RunsSession Done stamp left now written holds v w = RunsToEnd stamp left now written holds v w

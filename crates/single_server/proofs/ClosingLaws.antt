@@ -48,10 +48,10 @@ use Rattle.single_items.proofs.Telling.{told_both}
 use Rattle.single_node.specs.Singles.{Sends, SingleState}
 use Rattle.single_node.specs.Standing.{alone_node}
 use Rattle.single_node.proofs.Pieces.{bytes_lead}
-use Rattle.single_server.specs.Hearing.{Beginning, Heard}
+use Rattle.single_server.specs.Hearing.{Beginning, Heard, RepliesLogged}
 use Rattle.single_server.specs.Talking.{IsClosedFor}
 use Rattle.single_server.specs.Visits as visits
-use Rattle.single_server.proofs.PieceLaws.{heard_at, heard_of, left_is, stands}
+use Rattle.single_server.proofs.PieceLaws.{heard_at, heard_of, left_is, stands, taken_answered}
 
 abbrev Conns : Type 0
 Conns = List (ℕ × Client)
@@ -264,7 +264,7 @@ module _ (c : ℕ) (b : Beginning) (stream piece : List ℕ) (told : List Effect
         subst (λ (l : List ℕ). StandsAt c b.first stream (alone_node y (sent es)) l h.under_way.added) silent
         (subst (λ (z : NodeAlone). StandsAt c b.first stream z (told_to c told) h.under_way.added) is_there hung) in
         inr (
-          heard_of c b stream piece told s t v es h quiet heard sends y stream is there,
+          heard_of c b stream piece told s t v es h quiet heard sends y stream is there (subst (λ (l : List ℕ). RepliesLogged c b.first stream l h.under_way.added) silent h.answered),
           gone_at (ap (client_at c) clients ∙ ap (λ (l : Conns). lookup (is_at (nat_cmp c)) l) (hung_conns c b.first stream (alone_node h.now []) (told_to c told) h.under_way.added At)),
           left_is c b stream piece told s t v es h quiet heard sends ∙ none,
           (k.intake, given, cause, kept, because),
@@ -282,7 +282,9 @@ module _ (c : ℕ) (b : Beginning) (stream piece : List ℕ) (told : List Effect
         by_case : StandsAt c b.first (stream ++ piece) (alone_node y (sent es)) (told_to c told ++ told_to c es) h.under_way.added ⊎ (StandsAt c b.first stream (alone_node y (sent es)) (told_to c told) h.under_way.added × IsRefused c piece h.now.clients es)
             → Comes
         by_case (inl there) = inl (
-          heard_of c b stream piece told s t v es h quiet heard sends y (stream ++ piece) is (subst (λ (l : List ℕ). StandsAt c b.first (stream ++ piece) (alone_node y (sent es)) l h.under_way.added) (sym (told_both c told es)) there),
+          heard_of c b stream piece told s t v es h quiet heard sends y (stream ++ piece) is
+              (subst (λ (l : List ℕ). StandsAt c b.first (stream ++ piece) (alone_node y (sent es)) l h.under_way.added) (sym (told_both c told es)) there)
+              (taken_answered c b stream piece told s t v es h quiet heard sends y is there),
           closed,
         )
         by_case (inr (there, inl (none, silent))) = let e : ◌≡◌ {A = Option Client} (Some k) None = sym here ∙ none in absurd (cc)

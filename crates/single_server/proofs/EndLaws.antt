@@ -44,7 +44,7 @@ module _ (c : ℕ) (b : Beginning) (stream : List ℕ) (told : List Effect) wher
 
   -- The halt itself tells the connection nothing.
   front_at_halt : (cause : HaltCause) (w : DiskView) → HaltsFor cause c b stream told w → IsFront
-  front_at_halt cause w (at, is) given fault items =
+  front_at_halt cause w (at, is, answered) given fault items =
       subst (λ (l : List ℕ). BeginsWith (alone c b.first given).output l)
       (sym (ap (told_to c) at.whole ∙ told_both c at.said at.last ∙ ap (λ (l : List ℕ). told_to c at.said ++ l) (ap (told_to c) at.halted.effects ∙ tells_nothing c (keys_of at.before.clients.conns)) ∙ append-nil (told_to c at.said)))
       (at.halted.first_of given fault items).told
@@ -63,7 +63,7 @@ module _ (c : ℕ) (b : Beginning) (stream : List ℕ) (told : List Effect) wher
 -- A node that owns its log halts for a failed call of the disk alone.
 module _ (c : ℕ) (b : Beginning) (w : DiskView) (owns : Owns 1 b.member b.disk) (view : b.first.single.view ≡ 1) where
   pub halts_owning : (stream : List ℕ) (told : List Effect) (cause : HaltCause) → HaltsFor cause c b stream told w → (cause ≡ halt.Disk) × Rose b.disk.faults w.faults
-  halts_owning stream told cause (at, is) = let r = by_why at.halted.cause at.halted.why in (sym is ∙ r.0, r.1)
+  halts_owning stream told cause (at, is, answered) = let r = by_why at.halted.cause at.halted.why in (sym is ∙ r.0, r.1)
     where
       by_why : (k : HaltCause) → IsReason k b.first.single.view at.disk.current.held (answer_to at.halted.added) → (k ≡ halt.Disk) × Rose b.disk.faults w.faults
       by_why halt.Disk why =

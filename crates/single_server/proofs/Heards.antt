@@ -1,10 +1,13 @@
 -- What the node was told and tells leads it on as Alone says.
 use Rattle.std.proofs.Common.{◌≡◌, inl, inr, ℕ, ◌<◌, Bool, true, false, List, [], ◌∷◌, ◌++◌, map, Option, Some, None, Ok, refl, sym, ap, ◌∙◌, subst}
 use Rattle.std.specs.Map.{keys_of}
-use Rattle.std.specs.Prelude.{is_none}
+use Rattle.std.proofs.lemmas.List.{append-nil}
+use Rattle.std.specs.Prelude.{is_none, option_to_list}
 use Rattle.std.specs.declared.alloc.AllocError.{AllocError}
 use Rattle.disk_core.specs.Views.{DiskView}
 use Rattle.gum_messages.specs.Messages.{Sent}
+use Rattle.update_records.specs.Entry.{Entry}
+use Rattle.cluster_member.specs.States.{MemberState}
 use Rattle.cluster_rules.specs.declared.effect.CloseCause.TheVariants.{NodeStopped}
 use Rattle.cluster_rules.specs.declared.effect.Effect.{Effect}
 use Rattle.cluster_rules.specs.declared.effect.Effect.TheVariants.{Closed}
@@ -13,15 +16,20 @@ use Rattle.cluster_rules.specs.Worlds.{sent}
 use Rattle.cluster_node.specs.Events.{NodeReceives}
 use Rattle.cluster_node.specs.States.{RunningNode}
 use Rattle.single_items.specs.Events.{told_to}
-use Rattle.single_node.specs.Delivering.{StoppedAt, UnderWay}
+use Rattle.single_items.specs.Standing.{StandsAt}
+use Rattle.single_items.proofs.Telling.{told_both}
+use Rattle.single_node.specs.Delivering.{LogsAll, StoppedAt, UnderWay}
 use Rattle.single_node.specs.Laws.{HaltedAt}
 use Rattle.single_node.specs.Singles.{BreaksOff, HearsOldest, SingleState, halt_cause}
-use Rattle.single_node.specs.Standing.{alone_node, work}
-use Rattle.single_node.proofs.Delivery.{delivery_goes_on}
+use Rattle.single_node.specs.Standing.{LogsOne, alone_node, work}
+use Rattle.single_node.proofs.Applied.{still_self}
+use Rattle.single_node.proofs.Delivery.{logs_both}
 use Rattle.single_node.proofs.Halting.{halt_leads}
+use Rattle.single_node.proofs.Hearing.{message_leads}
 use Rattle.single_server.specs.declared.delivering.Turn.{Turn}
 use Rattle.single_server.specs.declared.delivering.Turn.TheVariants.{GoesOn, Halts, Rests, RunsOut, WriteFails}
-use Rattle.single_server.specs.Hearing.{Beginning, HaltsFor, Heard, Lessens, Tells, Turns, work_left}
+use Rattle.single_server.specs.Hearing.{Beginning, HaltsFor, Heard, Lessens, RepliesLogged, Tells, Turns, work_left}
+use Rattle.single_server.proofs.Answering.{message_logged}
 
 -- ---- what a node that stops tells
 
@@ -31,10 +39,19 @@ tells_nothing c (n ∷ numbers) = tells_nothing c numbers
 
 -- ---- a message
 
+-- One record is a list of records.
+logs_at_most : (logged : Option Entry) (x y : MemberState) (v w : DiskView) → LogsOne logged x v y w → LogsAll (option_to_list logged) x v y w
+logs_at_most None x y v w one = one
+logs_at_most (Some e) x y v w one = (x, y, w, still_self x, one, (refl, still_self y))
+
 module _ (c : ℕ) (b : Beginning) (stream : List ℕ) (told : List Effect) (s t : SingleState) (v w : DiskView) (es : List Effect) (h : Heard c b stream told s v) (hears : HearsOldest s v es t w) where
   -- the node before, with its oldest message in front
   pub before : UnderWay c b.first stream [] [] b.member b.disk (hears.message ∷ hears.others) h.now v told
-  before = subst (λ (l : List Sent). UnderWay c b.first stream [] [] b.member b.disk l h.now v told) hears.oldest h.under_way
+  before = record {
+    added = h.under_way.added;
+    logs = h.under_way.logs;
+    stands = subst (λ (l : List Sent). StandsAt c b.first stream (alone_node h.now l) (told_to c told) h.under_way.added) hears.oldest h.under_way.stands;
+  }
 
   pub receives : (r : Option RunningNode) → t.node.running ≡ r → NodeReceives {E = AllocError} v (Some h.now) hears.message (Ok es) r w
   receives r is = subst (λ (q : Option RunningNode). NodeReceives {E = AllocError} v (Some h.now) hears.message (Ok es) q w) is
@@ -42,6 +59,16 @@ module _ (c : ℕ) (b : Beginning) (stream : List ℕ) (told : List Effect) (s t
 
   halted : t.node.running ≡ None → HaltedAt c b.first stream hears.message h.now v w es (told_to c told) before.added
   halted is = halt_leads c b.first stream hears.message hears.others h.now v w es (told_to c told) before.added before.stands (receives None is)
+
+  halts_silent : HaltedAt c b.first stream hears.message h.now v w es (told_to c told) before.added → told_to c es ≡ []
+  halts_silent at = ap (told_to c) at.effects ∙ tells_nothing c (keys_of h.now.clients.conns)
+
+  -- The halt tells nothing more.
+  halts_answered : HaltedAt c b.first stream hears.message h.now v w es (told_to c told) before.added → RepliesLogged c b.first stream (told_to c (told ++ es)) before.added
+  unfolding before
+  halts_answered at =
+      let same : told_to c told ≡ told_to c (told ++ es) = sym (told_both c told es ∙ ap (λ (l : List ℕ). told_to c told ++ l) (halts_silent at) ∙ append-nil (told_to c told)) in
+      subst (λ (l : List ℕ). RepliesLogged c b.first stream l before.added) same h.answered
 
   pub halts : t.node.running ≡ None → (cause : HaltCause) × (halt_cause es ≡ Some cause) × HaltsFor cause c b stream (told ++ es) w × (told_to c es ≡ [])
   halts is =
@@ -56,14 +83,28 @@ module _ (c : ℕ) (b : Beginning) (stream : List ℕ) (told : List Effect) (s t
         logs = before.logs;
         halted = at;
         whole = refl;
-      } in (at.cause, ap halt_cause at.effects, (stopped, refl), ap (told_to c) at.effects ∙ tells_nothing c (keys_of h.now.clients.conns))
+      } in (at.cause, ap halt_cause at.effects, (stopped, refl, halts_answered at), halts_silent at)
 
   goes_on : (y : RunningNode) → t.node.running ≡ Some y → Heard c b stream (told ++ es) t w × (work_left t < work_left s)
+  unfolding before
   goes_on y is =
-      let g = delivery_goes_on c b.first stream [] [] b.member b.disk hears.message hears.others h.now v told y w es before (receives (Some y) is) in (
-        record { now = y; runs = is; under_way = subst (λ (l : List Sent). UnderWay c b.first stream [] [] b.member b.disk l y w (told ++ es)) (sym hears.left) g.0 },
+      let g = message_leads c b.first stream hears.message hears.others h.now v y w es (told_to c told) before.added before.stands (receives (Some y) is) in
+      let added : List Entry = before.added ++ option_to_list g.logged in
+      let both : told_to c told ++ told_to c es ≡ told_to c (told ++ es) = sym (told_both c told es) in (
+        record {
+          now = y;
+          runs = is;
+          under_way = record {
+            added = added;
+            logs = logs_both before.added (option_to_list g.logged) b.member h.now.member y.member b.disk v w before.logs (logs_at_most g.logged h.now.member y.member v w g.logs);
+            stands = subst (λ (l : List Sent). StandsAt c b.first stream (alone_node y l) (told_to c (told ++ es)) added) (sym hears.left)
+                (subst (λ (l : List ℕ). StandsAt c b.first stream (alone_node y (hears.others ++ sent es)) l added) both g.stands);
+          };
+          answered = subst (λ (l : List ℕ). RepliesLogged c b.first stream l added) both
+              (message_logged c b.first stream hears.message hears.others h.now v y w es (told_to c told) before.added (option_to_list g.logged) before.stands h.answered (receives (Some y) is));
+        },
         subst (λ (n : ℕ). n < work_left s) (sym (worth t y (hears.others ++ sent es) is hears.left))
-            (subst (λ (n : ℕ). work (alone_node y (hears.others ++ sent es)) < n) (sym (worth s h.now (hears.message ∷ hears.others) h.runs hears.oldest)) g.1),
+            (subst (λ (n : ℕ). work (alone_node y (hears.others ++ sent es)) < n) (sym (worth s h.now (hears.message ∷ hears.others) h.runs hears.oldest)) g.less),
       )
     where
       worth : (u : SingleState) (x : RunningNode) (left : List Sent) → u.node.running ≡ Some x → u.left ≡ left → work_left u ≡ work (alone_node x left)

@@ -16,3 +16,5 @@ mod ConversingLaws
 mod AttendLaws
 mod ServeLaws
 mod RunLaws
+mod Fronts
+mod Answering

@@ -25,7 +25,8 @@ use Rattle.single_node.specs.Standing.{alone_node}
 use Rattle.single_node.proofs.Applied.{still_as_stands}
 use Rattle.single_node.proofs.Delivery.{logs_still}
 use Rattle.single_node.proofs.Pieces.{bytes_lead}
-use Rattle.single_server.specs.Hearing.{Beginning, Heard}
+use Rattle.single_server.specs.Hearing.{Beginning, Heard, RepliesLogged}
+use Rattle.single_server.proofs.Answering.{piece_logged}
 
 -- ---- a connection that is closed is gone
 
@@ -58,8 +59,9 @@ module _ (c : ℕ) (b : Beginning) (stream piece : List ℕ) (told : List Effect
   heard_at y is = subst (λ (r : Option RunningNode). HearsBytes c piece (Some h.now) r es) is (subst (λ (r : Option RunningNode). HearsBytes c piece r t.node.running es) h.runs heard)
 
   -- The node stands there behind this stream.
-  pub heard_of : (y : RunningNode) (more : List ℕ) → t.node.running ≡ Some y → StandsAt c b.first more (alone_node y (sent es)) (told_to c (told ++ es)) h.under_way.added → Heard c b more (told ++ es) t v
-  heard_of y more is there = record {
+  pub heard_of : (y : RunningNode) (more : List ℕ) → t.node.running ≡ Some y → StandsAt c b.first more (alone_node y (sent es)) (told_to c (told ++ es)) h.under_way.added
+      → RepliesLogged c b.first more (told_to c (told ++ es)) h.under_way.added → Heard c b more (told ++ es) t v
+  heard_of y more is there answered = record {
     now = y;
     runs = is;
     under_way = record {
@@ -68,7 +70,15 @@ module _ (c : ℕ) (b : Beginning) (stream piece : List ℕ) (told : List Effect
           (still_as_stands c b.first stream more h.now y [] (sent es) (told_to c told) (told_to c (told ++ es)) h.under_way.added (heard_at y is).submits.log stands there);
       stands = subst (λ (l : List Sent). StandsAt c b.first more (alone_node y l) (told_to c (told ++ es)) h.under_way.added) (sym left_is) there;
     };
+    answered = answered;
   }
+
+  -- What it tells of the piece comes behind the records.
+  pub taken_answered : (y : RunningNode) → t.node.running ≡ Some y → StandsAt c b.first (stream ++ piece) (alone_node y (sent es)) (told_to c told ++ told_to c es) h.under_way.added
+      → RepliesLogged c b.first (stream ++ piece) (told_to c (told ++ es)) h.under_way.added
+  taken_answered y is there =
+      subst (λ (l : List ℕ). RepliesLogged c b.first (stream ++ piece) l h.under_way.added) (sym (told_both c told es))
+      (piece_logged c b.first stream piece h.now y es (told_to c told) h.under_way.added stands (heard_at y is) there)
 
   abbrev Taken : Type 0
   Taken = Heard c b (stream ++ piece) (told ++ es) t v ⊎ (Heard c b stream (told ++ es) t v × (client_in c t.node ≡ None) × (t.left ≡ []))
@@ -80,7 +90,9 @@ module _ (c : ℕ) (b : Beginning) (stream piece : List ℕ) (told : List Effect
   by_case : (y : RunningNode) → t.node.running ≡ Some y
       → StandsAt c b.first (stream ++ piece) (alone_node y (sent es)) (told_to c told ++ told_to c es) h.under_way.added ⊎ (StandsAt c b.first stream (alone_node y (sent es)) (told_to c told) h.under_way.added × IsRefused c piece h.now.clients es)
       → Taken
-  by_case y is (inl there) = inl (heard_of y (stream ++ piece) is (subst (λ (l : List ℕ). StandsAt c b.first (stream ++ piece) (alone_node y (sent es)) l h.under_way.added) (sym (told_both c told es)) there))
+  by_case y is (inl there) = inl (heard_of y (stream ++ piece) is
+      (subst (λ (l : List ℕ). StandsAt c b.first (stream ++ piece) (alone_node y (sent es)) l h.under_way.added) (sym (told_both c told es)) there)
+      (taken_answered y is there))
   by_case y is (inr (there, refused)) =
       let silent = refused_silent refused in
       let same : told_to c told ≡ told_to c (told ++ es) = sym (told_both c told es ∙ ap (λ (l : List ℕ). told_to c told ++ l) silent.0 ∙ append-nil (told_to c told)) in
@@ -88,7 +100,8 @@ module _ (c : ℕ) (b : Beginning) (stream piece : List ℕ) (told : List Effect
       let at = heard_at y is in
       let gone : client_at c y.clients ≡ None = is_gone c piece (serving_of h.now.member) h.now.clients y.clients (waiting_on p.way) p.run p.intake at.told at.queued es (ap (λ (z : NodeAlone). z.clients) stands.is) at.hears refused in
       inr (
-        heard_of y stream is (subst (λ (l : List ℕ). StandsAt c b.first stream (alone_node y (sent es)) l h.under_way.added) same there),
+        heard_of y stream is (subst (λ (l : List ℕ). StandsAt c b.first stream (alone_node y (sent es)) l h.under_way.added) same there)
+            (subst (λ (l : List ℕ). RepliesLogged c b.first stream l h.under_way.added) same h.answered),
         ap (λ (r : Option RunningNode). elim r [ None ↦ None | Some x ↦ client_at c x.clients ]) is ∙ gone,
         left_is ∙ silent.1,
       )

@@ -21,6 +21,7 @@ use Rattle.single_node.specs.Standing.{IsStill, alone_node}
 use Rattle.single_node.proofs.Applied.{still_self}
 use Rattle.single_node.proofs.Connecting.{connect_leads, connects_first}
 use Rattle.single_server.specs.Hearing.{Beginning}
+use Rattle.single_server.proofs.Answering.{none_logged}
 use Rattle.single_server.specs.declared.ended.Ended.{Ended}
 use Rattle.single_server.specs.declared.ended.Ended.TheVariants.{BadLog, DiskFault, Done, Fenced, NoMemory, ReadFault, WriteFault}
 use Rattle.single_server.specs.Begins.{IsBegun, NotBegun}
@@ -80,6 +81,7 @@ module _ (c : ℕ) (s t : SingleState) (v : DiskView) (es : List Effect) (x : Ru
           now = y;
           runs = is;
           under_way = record { added = []; logs = (refl, subst (λ (n : RunningNode). IsStill x.member n.member) (sym to.0) (still_self x.member)); stands = subst (λ (l : List Sent). StandsAt c first [] (alone_node y l) [] []) (sym left_is) stands };
+          answered = none_logged c first [] (ap (λ (r : AloneRun). r.output) begun) (ap (λ (r : AloneRun). r.records) begun);
         },
         left_is,
         ap (λ (q : Option RunningNode). is_some (elim q [ None ↦ None | Some n ↦ client_at c n.clients ])) is ∙ is_open y to,

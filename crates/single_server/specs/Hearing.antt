@@ -3,13 +3,19 @@ use Rattle.std.specs.Prelude.{◌≡◌, ◌≢◌, ◌⊎◌, ℕ, ◌<◌, Boo
 use Rattle.std.specs.declared.alloc.AllocError.{AllocError}
 use Rattle.causes.specs.Writing.{Wrote, WroteSome}
 use Rattle.disk_core.specs.Views.{DiskView}
+use Rattle.rpc_calls.specs.declared.intake_fault.IntakeFault.{IntakeFault}
+use Rattle.rpc_calls.specs.declared.item.Item.{Item}
+use Rattle.rpc_calls.specs.declared.side.Side.TheVariants.{Server}
+use Rattle.rpc_calls.specs.Streams.{Items}
+use Rattle.update_records.specs.Entry.{Entry}
 use Rattle.cluster_rules.specs.declared.effect.Effect.{Effect}
 use Rattle.cluster_rules.specs.declared.effect.HaltCause.{HaltCause}
 use Rattle.cluster_rules.specs.declared.effect.HaltCause.TheVariants as halt
 use Rattle.cluster_member.specs.States.{MemberState}
 use Rattle.cluster_node.specs.States.{RunningNode, client_in}
-use Rattle.single_items.specs.Alone.{AloneRun}
+use Rattle.single_items.specs.Alone.{AloneRun, alone}
 use Rattle.single_items.specs.Events.{told_to}
+use Rattle.single_items.specs.Promises.{BeginsWith}
 use Rattle.single_node.specs.Delivering.{StoppedAt, UnderWay}
 use Rattle.single_node.specs.Singles.{BreaksOff, SingleState, halt_cause}
 use Rattle.single_node.specs.Standing.{alone_node, work}
@@ -24,6 +30,20 @@ pub record Beginning : Type 0 where
   pub member : MemberState
   pub disk : DiskView
 
+-- ---- replies and records
+
+-- The text is all that Alone writes for the first of these items, and the records are those that it makes for them, or more:
+-- a reply comes behind the record of its update.
+pub record AnswersLogged (c : ℕ) (first : AloneRun) (given : List Item) (text : List ℕ) (records : List Entry) : Type 0 where
+  pub front : List Item
+  pub among : BeginsWith given front
+  pub told : text ≡ (alone c first front).output
+  pub logged : BeginsWith records (alone c first front).records
+
+-- So it is of the items of the stream.
+abbrev pub RepliesLogged : ℕ → AloneRun → List ℕ → List ℕ → List Entry → Type 0
+RepliesLogged c first stream text records = (given : List Item) (fault : Option IntakeFault) → Items Server stream given fault → AnswersLogged c first given text records
+
 -- ---- between two events
 
 -- Since the connection `c` began, this stream of it was heard, and all of this was told; the node stands as Alone says.
@@ -31,6 +51,7 @@ pub record Heard (c : ℕ) (b : Beginning) (stream : List ℕ) (told : List Effe
   pub now : RunningNode
   pub runs : s.node.running ≡ Some now
   pub under_way : UnderWay c b.first stream [] [] b.member b.disk s.left now w told
+  pub answered : RepliesLogged c b.first stream (told_to c told) under_way.added
 
 -- So it is from some beginning.
 abbrev pub IsHeard : ℕ → SingleState → DiskView → Type 0
@@ -44,7 +65,8 @@ work_left s = elim s.node.running [ None ↦ 0 | Some x ↦ work (alone_node x s
 
 -- The node halted for this cause.
 abbrev pub HaltsFor : HaltCause → ℕ → Beginning → List ℕ → List Effect → DiskView → Type 0
-HaltsFor cause c b stream told w = (at : StoppedAt c b.first stream [] [] b.member b.disk w told) × (at.halted.cause ≡ cause)
+HaltsFor cause c b stream told w =
+    (at : StoppedAt c b.first stream [] [] b.member b.disk w told) × (at.halted.cause ≡ cause) × RepliesLogged c b.first stream (told_to c told) at.added
 
 -- Memory ran out between two events, or in one whose calls of the disk were made all the same.
 abbrev pub RunsOutAt : ℕ → Beginning → List ℕ → List Effect → DiskView → Type 0
