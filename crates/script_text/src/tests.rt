@@ -28,83 +28,66 @@ fn sent(number: u64, from: u16, to: u16, body: Body) -> Told
     }
 }
 
+/// Whether this is the line that tells it.
+fn is_line(alloc: Global, told: &Told, line: &[u8]) -> Result<bool, Fail> {
+    Ok(print_effect(alloc, told)?.as_slice() == line)
+}
+
 #[test]
-fn messages_are_printed(rt: HostRuntime) -> Result<(), Fail> {
+fn a_piece_is_printed_with_its_place_and_length(rt: HostRuntime) -> Result<(), Fail> {
     let alloc = rt.alloc();
     let piece = Body::Piece {
         total: 10_000,
         offset: 8_192,
         bytes: octets(alloc, &[0; 1_808])?,
     };
-    for (told, line) in [
-        (
-            &sent(5, 1, 2, piece),
-            b"send 5 piece 1 1 2 8192 1808\n".as_slice(),
-        ),
-        (&sent(7, 2, 1, Body::Ready), b"send 7 ready 1 2 1\n"),
-        (
-            &sent(3, 2, 1, Body::Need { offset: 0 }),
-            b"send 3 need 1 2 1 0\n",
-        ),
-    ] {
-        assert_eq!(rt; print_effect(alloc, told)?.as_slice(), line);
-    }
+    let told = sent(5, 1, 2, piece);
+    assert!(rt; is_line(alloc, &told, b"send 5 piece 1 1 2 8192 1808\n")?);
     Ok(())
 }
 
 #[test]
-fn what_a_client_is_told_is_printed(rt: HostRuntime) -> Result<(), Fail> {
+fn a_message_without_fields_is_printed(rt: HostRuntime) -> Result<(), Fail> {
+    let told = sent(7, 2, 1, Body::Ready);
+    assert!(rt; is_line(rt.alloc(), &told, b"send 7 ready 1 2 1\n")?);
+    Ok(())
+}
+
+#[test]
+fn a_reply_without_a_point_is_printed(rt: HostRuntime) -> Result<(), Fail> {
     let alloc = rt.alloc();
-    let reply = Told::Reply {
+    let told = Told::Reply {
         conn: 1,
         point: None,
         bytes: octets(alloc, &[0x05, 0x00])?,
     };
-    let batched = Told::Batched {
-        node: 1,
-        req: 1,
-        point: Some(1),
-        status: 0,
-        index: 0,
-    };
-    let closed = Told::Closed {
-        conn: 2,
-        cause: CloseCause::NodeStopped,
-    };
-    for (told, line) in [
-        (&reply, b"reply 1 - 0500\n".as_slice()),
-        (&batched, b"batched 1 1 1 0 0\n"),
-        (&closed, b"closed 2 stopped\n"),
-    ] {
-        assert_eq!(rt; print_effect(alloc, told)?.as_slice(), line);
-    }
+    assert!(rt; is_line(alloc, &told, b"reply 1 - 0500\n")?);
     Ok(())
 }
 
 #[test]
-fn what_a_node_does_is_printed(rt: HostRuntime) -> Result<(), Fail> {
+fn an_order_is_printed_with_its_record(rt: HostRuntime) -> Result<(), Fail> {
     let alloc = rt.alloc();
-    let order = Told::Order {
+    let told = Told::Order {
         place: 1,
         spelling: octets(alloc, &[0x01, 0xAB])?,
     };
+    assert!(rt; is_line(alloc, &told, b"order 1 01ab\n")?);
+    Ok(())
+}
+
+#[test]
+fn a_cause_is_printed(rt: HostRuntime) -> Result<(), Fail> {
+    let closed = Told::Closed {
+        conn: 2,
+        cause: CloseCause::NodeStopped,
+    };
+    assert!(rt; is_line(rt.alloc(), &closed, b"closed 2 stopped\n")?);
     let halted = Told::Halted {
         node: 1,
         cause: HaltCause::Fenced { held: 2 },
     };
-    let acked = Told::Acked {
-        node: 1,
-        view: 1,
-        place: 1,
-    };
-    for (told, line) in [
-        (&order, b"order 1 01ab\n".as_slice()),
-        (&halted, b"halt 1 fenced 2\n"),
-        (&acked, b"ack 1 1 1\n"),
-        (&Told::Opened { node: 3, view: 2 }, b"opened 3 2\n"),
-    ] {
-        assert_eq!(rt; print_effect(alloc, told)?.as_slice(), line);
-    }
+    assert!(rt; is_line(rt.alloc(), &halted, b"halt 1 fenced 2\n")?);
     Ok(())
 }
 
