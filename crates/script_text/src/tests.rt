@@ -77,12 +77,17 @@ fn an_order_is_printed_with_its_record(rt: HostRuntime) -> Result<(), Fail> {
 }
 
 #[test]
-fn a_cause_is_printed(rt: HostRuntime) -> Result<(), Fail> {
+fn a_close_is_printed(rt: HostRuntime) -> Result<(), Fail> {
     let closed = Told::Closed {
         conn: 2,
         cause: CloseCause::NodeStopped,
     };
     assert!(rt; is_line(rt.alloc(), &closed, b"closed 2 stopped\n")?);
+    Ok(())
+}
+
+#[test]
+fn a_halt_is_printed(rt: HostRuntime) -> Result<(), Fail> {
     let halted = Told::Halted {
         node: 1,
         cause: HaltCause::Fenced { held: 2 },
