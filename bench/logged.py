@@ -5,13 +5,15 @@
 
 It works in a folder of its own in FOLDER, or in the present one, so that the file system is the one that is meant. It
 counts the system calls of `serve` by `strace` for 100 and for 300 SetValue of 4 bytes, one under way; the difference is
-that of 200 updates. Then it prints the updates a second, with one and with 32 under way, and what a program of a few
-lines of C does that makes the calls of an append alone: a write of a record, fdatasync, a write of one byte, fdatasync.
+that of 200 updates. Then it prints the updates a second, with one and with 32 under way, the best of some runs, and what
+a program of a few lines of C does that is asked and answers over a connection too, and makes the calls of an append
+alone: a write of a record, fdatasync, a write of one byte, fdatasync.
 """
 import collections
 import pathlib
 import re
 import shutil
+import socket
 import subprocess
 import sys
 import tempfile
@@ -21,32 +23,38 @@ import client
 
 PORT = 27312
 FEW, MANY = 100, 300
-SECONDS = 2.0
-RECORD = 4 + 61 + 1
+SECONDS, RUNS = 2.0, 3
+RECORD, REPLY = 4 + 61 + 1, 32
 
 BARE = r"""
+#include <arpa/inet.h>
 #include <fcntl.h>
+#include <netinet/tcp.h>
 #include <stdio.h>
 #include <stdlib.h>
-#include <time.h>
+#include <sys/socket.h>
 #include <unistd.h>
 
-/* Appends records of SIZE bytes to FILE for so many SECONDS, and prints how many a second. */
+/* Appends a record of SIZE bytes to FILE for each REQUEST bytes of the one connection to PORT, and then sends REPLY bytes.
+   The file has its size from the beginning, as a log has. */
 int main(int count, char **words) {
-    int size = atoi(words[2]), file = open(words[1], O_RDWR | O_CREAT | O_TRUNC, 0644);
-    double seconds = atof(words[3]), passed = 0;
-    char *bytes = calloc(1, size);
-    struct timespec begin, now;
-    long done = 0;
-    clock_gettime(CLOCK_MONOTONIC, &begin);
-    for (off_t at = 64; passed < seconds; at += size - 1) {
-        if (pwrite(file, bytes, size, at) != size || fdatasync(file)) return 1;
-        if (pwrite(file, "\1", 1, at) != 1 || fdatasync(file)) return 1;
-        done++;
-        clock_gettime(CLOCK_MONOTONIC, &now);
-        passed = now.tv_sec - begin.tv_sec + (now.tv_nsec - begin.tv_nsec) / 1e9;
-    }
-    printf("%.0f\n", done / passed);
+    int file = open(words[1], O_RDWR | O_CREAT | O_TRUNC, 0644), door = socket(AF_INET, SOCK_STREAM, 0), on = 1;
+    int size = atoi(words[2]), request = atoi(words[4]), reply = atoi(words[5]), waiting = 0, got;
+    struct sockaddr_in address = {.sin_family = AF_INET, .sin_port = htons(atoi(words[3])), .sin_addr = {htonl(INADDR_LOOPBACK)}};
+    static char piece[4096];
+    char *record = calloc(1, size), *answer = calloc(1, reply);
+    setsockopt(door, SOL_SOCKET, SO_REUSEADDR, &on, sizeof on);
+    if (bind(door, (struct sockaddr *)&address, sizeof address) || listen(door, 1)) return 1;
+    int link = accept(door, 0, 0);
+    setsockopt(link, IPPROTO_TCP, TCP_NODELAY, &on, sizeof on);
+    off_t at = 64, end = 2 << 20;
+    if (ftruncate(file, end)) return 1;
+    while ((got = recv(link, piece, sizeof piece, 0)) > 0)
+        for (waiting += got; waiting >= request; waiting -= request, at = at + 2 * size < end ? at + size - 1 : 64) {
+            if (pwrite(file, record, size, at) != size || fdatasync(file)) return 1;
+            if (pwrite(file, "\1", 1, at) != 1 || fdatasync(file)) return 1;
+            if (send(link, answer, reply, 0) != reply) return 1;
+        }
     return 0;
 }
 """
@@ -72,8 +80,7 @@ class Server:
 
     def update(self, under_way):
         self.link.socket.sendall(client.request(2, client.SET_VALUE, self.stub) * under_way)
-        for _ in range(under_way):
-            self.link.reply()
+        take_replies(self.link.socket, under_way)
 
     def end(self):
         self.link.close()
@@ -102,23 +109,58 @@ def tell_calls(folder):
     print("system calls an update: " + ", ".join(f"{name} {count:g}" for name, count in each.items()), flush=True)
 
 
-def rate(folder, under_way):
+class Bare:
+    """The program of the bare calls, with a connection over which it is asked and answers as `serve` is."""
+
+    def __init__(self, folder):
+        program, stub = folder / "bare", client.set_value(client.handle_of(1), "V", 4, b"\7\0\0\0")
+        self.request = client.request(2, client.SET_VALUE, stub)
+        if not program.exists():
+            subprocess.run(["gcc", "-O2", "-x", "c", "-o", program, "-"], input=BARE.encode(), check=True)
+        numbers = [str(it) for it in (RECORD, PORT, len(self.request), REPLY)]
+        self.process = subprocess.Popen([program, folder / "bare.log", *numbers])
+        self.link = reached()
+
+    def update(self, under_way):
+        self.link.sendall(self.request * under_way)
+        take_replies(self.link, under_way)
+
+    def end(self):
+        self.link.close()
+        self.process.wait()
+
+
+def take_replies(link, count):
+    left = count * REPLY
+    while left > 0:
+        piece = link.recv(left)
+        if not piece:
+            sys.exit("the server closed the connection")
+        left -= len(piece)
+
+
+def reached():
+    for _ in range(500):
+        try:
+            link = socket.create_connection(("127.0.0.1", PORT))
+        except ConnectionRefusedError:
+            time.sleep(0.01)
+        else:
+            link.setsockopt(socket.IPPROTO_TCP, socket.TCP_NODELAY, 1)
+            return link
+    sys.exit("nothing listens")
+
+
+def rate(folder, server, under_way):
     (folder / "quorum.log").unlink(missing_ok=True)
-    server = Server(folder)
+    running = server(folder)
     begin, done = time.perf_counter(), 0
     while time.perf_counter() - begin < SECONDS:
-        server.update(under_way)
+        running.update(under_way)
         done += under_way
     taken = time.perf_counter() - begin
-    server.end()
+    running.end()
     return done / taken
-
-
-def bare_rate(folder):
-    program = folder / "bare"
-    subprocess.run(["gcc", "-O2", "-x", "c", "-o", program, "-"], input=BARE.encode(), check=True)
-    words = [program, folder / "bare.log", str(RECORD), str(SECONDS)]
-    return float(subprocess.run(words, stdout=subprocess.PIPE, check=True).stdout)
 
 
 def main():
@@ -130,10 +172,9 @@ def main():
             tell_calls(folder)
         else:
             print("there is no strace to count the system calls")
-        bare = bare_rate(folder)
         for under_way in (1, 32):
-            ours = rate(folder, under_way)
-            print(f"{under_way} under way: {ours:,.0f} updates a second, the bare calls {bare:,.0f} ({ours / bare:.2f})", flush=True)
+            bare, ours = (max(rate(folder, server, under_way) for _ in range(RUNS)) for server in (Bare, Server))
+            print(f"{under_way} under way: {ours:,.0f} updates a second, the bare calls {bare:,.0f}: {bare / ours:.2f} of their cost", flush=True)
 
 
 main()
