@@ -17,7 +17,9 @@
 //! | `put PLACE BYTES` | writes to the disk |
 //! | `claim N` | makes N the fencing token of the disk |
 //! | `bytes PLACE COUNT` | prints bytes of the disk |
-//! | `calls` | prints how many writes, syncs and claims the disk had |
+//! | `mark` | syncs the disk and counts its calls from here on |
+//! | `calls` | prints how many writes, syncs and claims the disk had since then |
+//! | `crash N BYTES` | leaves the disk as a crash behind the first N calls does; these bytes, or none, take the place of the first that were pending |
 //!
 //! A `session` or a `serve` has a new disk, unless one of the lines on the disk stands before it. BYTES are words: hex, `HEX*COUNT` for the same COUNT times, or `$NAME`. In the words of `run` an underscore stands
 //! for a space, and `""` for the empty word. A run prints its status with its text; what was written, in hex behind

@@ -34,6 +34,7 @@ fn play_word(stage: &mut Stage, word: &str) -> Result<String, RowFault> {
         "connection" => stage.end_connection()?,
         "disk" => stage.renew_disk()?,
         "keep" => stage.is_kept = true,
+        "mark" => stage.mark()?,
         _ => return Err(RowFault::Bad),
     }
     Ok(String::new(alloc))
@@ -62,6 +63,7 @@ fn prepare(stage: &mut Stage, word: &str, rest: &str) -> Result<(), RowFault> {
         "fail" => fail_row(stage, rest),
         "put" => put_row(stage, rest),
         "claim" => claim_row(stage, rest),
+        "crash" => crash_row(stage, rest),
         _ => Err(RowFault::Bad),
     }
 }
@@ -99,6 +101,14 @@ fn put_row(stage: &mut Stage, text: &str) -> Result<(), RowFault> {
 fn claim_row(stage: &mut Stage, text: &str) -> Result<(), RowFault> {
     stage.is_kept = true;
     stage.disk.claim(text.parse()?).map_err(|_| RowFault::Bad)
+}
+
+fn crash_row(stage: &mut Stage, text: &str) -> Result<(), RowFault> {
+    let (moment, text) = text.split_once(' ').unwrap_or((text, ""));
+    let bytes = bytes_of(stage.alloc, &stage.names, text)?;
+    stage.is_kept = true;
+    stage.disk.crash(moment.parse()?, &bytes);
+    Ok(())
 }
 
 fn bytes_row(stage: &mut Stage, text: &str) -> Result<String, RowFault> {

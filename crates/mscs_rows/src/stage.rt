@@ -1,4 +1,4 @@
-use disk_core::{Disk, MemDisk};
+use disk_core::{CrashDisk, Disk, MemDisk};
 use edge_io::{BytesSink, BytesSource, ScriptDoor};
 use row_words::{Names, RowFault};
 use std::alloc::{AllocError, Global};
@@ -56,6 +56,15 @@ impl Stage {
     /// The disk is a new one.
     pub(crate) fn renew_disk(&mut self) -> Result<(), AllocError> {
         self.disk = MemDisk::new(self.alloc, DISK)?;
+        self.is_kept = true;
+        Ok(())
+    }
+
+    /// What was written to the disk is synced, and its calls are counted from here on.
+    pub(crate) fn mark(&mut self) -> Result<(), RowFault> {
+        let claim = self.disk.held();
+        self.disk.sync(claim).map_err(|_| RowFault::Bad)?;
+        self.disk.mark();
         self.is_kept = true;
         Ok(())
     }
