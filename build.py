@@ -25,7 +25,7 @@ PARTS = ("src", "specs", "proofs")
 KIT = "rattle-kit-13f"
 # What a first build of all crates takes on four free processors, and what one proof may take of the memory. More
 # processors don't make it much shorter: the last crates stand on one another and are proved in turn.
-FIRST_BUILD_MINUTES = 19
+FIRST_BUILD_MINUTES = 45
 PROOF_BYTES = 4 << 30
 # How many processors one proof makes use of, and how long it runs before it is told.
 MOST_JOBS = 8
